@@ -1,0 +1,2 @@
+//! Monomials over numbered atoms, in grevlex order.
+#![tactic(auto)]

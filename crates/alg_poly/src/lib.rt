@@ -1,0 +1,2 @@
+//! Polynomials with integer coefficients over numbered atoms.
+#![tactic(auto)]

@@ -1,0 +1,2 @@
+//! Terms, and files of declarations and goals.
+#![tactic(auto)]
