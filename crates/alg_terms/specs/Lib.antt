@@ -1,0 +1,12 @@
+pub mod GoalRules
+pub mod Kinds
+pub mod Members
+pub mod Names
+pub mod Nodes
+pub mod Occurring
+pub mod Order
+pub mod SmallFile
+pub mod Sorts
+pub mod Term
+pub mod TermRules
+pub mod Valid
