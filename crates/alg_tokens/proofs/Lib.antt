@@ -1,0 +1,12 @@
+pub mod Words
+pub mod Leads
+pub mod Longest
+pub mod Signs
+pub mod Firsts
+pub mod Blanks
+pub mod Runs
+pub mod Values
+pub mod Steps
+pub mod Unique
+pub mod Cuttings
+pub mod Following

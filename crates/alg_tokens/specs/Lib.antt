@@ -1,0 +1,5 @@
+pub mod Spelling
+pub mod Pieces
+pub mod Runs
+pub mod Next
+pub mod Laws
