@@ -1,0 +1,10 @@
+pub mod FiniteMaps
+pub mod Numbers
+pub mod Monomials
+pub mod Mono
+pub mod Places
+pub mod Grevlex
+pub mod Polynomials
+pub mod Outcomes
+pub mod Refusals
+pub mod Laws

@@ -1,0 +1,103 @@
+-- The laws for atoms by number.
+use Rattle.std.specs.Prelude.{◌≡◌, ℤ, pos, ◌+ℤ◌, ◌*ℤ◌, [], ◌∷◌, ◌++◌}
+use Rattle.std.proofs.Common.{sym, ap, ◌∙◌, arith}
+use lib.IntN.{neg_ℤ}
+use Rattle.std.specs.Ordering.{nat_cmp}
+use Rattle.std.specs.Cmp.{nat_cmp_total, IsTotalOrder}
+use Rattle.std.specs.FinMap.{nat_cmp-IsAntisymmetric, IsAntisymmetric}
+use Rattle.alg_mono.specs.FiniteMaps.{at_key, products, total, Each, IsCanonical}
+use Rattle.alg_mono.specs.Numbers.{integers, exponents}
+use Rattle.alg_mono.specs.Monomials.{mono_times, mono_over, falling}
+use Rattle.alg_mono.specs.Mono.{Pairs}
+use Rattle.alg_mono.specs.Polynomials.{poly_neg}
+use Rattle.alg_mono.specs.Laws.{Poly, at, plus, PolynomialsAreMaps, PolynomialsAreARing, NoZeroDivisors, GrevlexIsItsWords, DivisionIsByProducts, LcmIsLeast}
+use Rattle.alg_mono.proofs.Numbers.{integer_laws, integer_sum}
+use Rattle.alg_mono.proofs.Totals.{total-append, total-products}
+use Rattle.alg_mono.proofs.Canonical.{amount-total, amount-collect, same_canonical}
+use Rattle.alg_mono.proofs.Monomials.{grevlex_total, grevlex_anti, mono_times_comm, mono_times_assoc, one_mono_times}
+use Rattle.alg_mono.proofs.Grevlex.{falling_total, falling_anti, falling-mono_times, grevlex_less, less_grevlex, kept}
+use Rattle.alg_mono.proofs.Polynomials.{plus_assoc, plus_comm, zero_plus, times_poly_assoc, times_poly_comm, times_plus}
+use Rattle.alg_mono.proofs.Renaming.{total-neg, at_key-neg, plus_opposite, one_times}
+use Rattle.alg_mono.proofs.Domain.{no_zero_divisors}
+use Rattle.alg_mono.proofs.Lcm.{times_over, divides_product, exponent-lcm}
+
+o : IsTotalOrder nat_cmp
+o = nat_cmp_total
+
+anti : IsAntisymmetric nat_cmp
+anti = nat_cmp-IsAntisymmetric
+
+fo : IsTotalOrder (falling nat_cmp)
+fo = falling_total nat_cmp_total nat_cmp-IsAntisymmetric
+
+fa : IsAntisymmetric (falling nat_cmp)
+fa = falling_anti nat_cmp_total nat_cmp-IsAntisymmetric
+
+abbrev key : Pairs → Pairs → ℤ → ℤ
+key m = at_key (falling nat_cmp) integers.amounts m
+
+abbrev Sum : (Pairs → ℤ → ℤ) → Poly → ℤ
+Sum g p = total (pos 0) ◌+ℤ◌ g p
+
+at-total : (m : Pairs) (p : Poly) → at m p ≡ Sum (key m) p
+at-total m p = amount-total integer_laws.amounts fo fa m p
+
+at-collect : (m : Pairs) (p : Poly) → at m (plus [] p) ≡ Sum (key m) p
+at-collect m p = amount-collect integer_laws.amounts fo fa m p ∙ at-total m p
+
+pub polynomials_are_maps : PolynomialsAreMaps
+polynomials_are_maps = record {
+  sum =
+      λ m p q. at-collect m (p ++ q) ∙ total-append integer_sum (key m) p q
+      ∙ sym (λ i. at-total m p i +ℤ at-total m q i);
+  opposite =
+      λ m p. at-total m (poly_neg p) ∙ total-neg (key m) (λ n c. at_key-neg (falling nat_cmp) m n c) p
+      ∙ ap neg_ℤ (sym (at-total m p));
+  product =
+      λ m p q. at-collect m (products (mono_times nat_cmp) ◌*ℤ◌ p q)
+      ∙ total-products (mono_times nat_cmp) ◌*ℤ◌ integer_sum (key m) p q;
+  equal = λ p q c d same. same_canonical integer_laws.amounts fo fa p q c.canonical d.canonical same;
+}
+
+each_times_one : (p : Poly) → Each (λ m. IsCanonical nat_cmp exponents m) p → Each (λ m. mono_times nat_cmp [] m ≡ m) p
+each_times_one [] h = tt
+each_times_one (e ∷ p) h = (one_mono_times o anti e.0 h.0, each_times_one p h.1)
+
+pub polynomials_are_a_ring : PolynomialsAreARing
+polynomials_are_a_ring = record {
+  plus_assoc = plus_assoc integer_laws fo fa;
+  plus_comm = plus_comm integer_laws fo fa;
+  plus_zero = λ p c. zero_plus integer_laws fo fa p c.canonical;
+  opposite = plus_opposite fo fa;
+  times_assoc = times_poly_assoc integer_laws fo fa (mono_times nat_cmp) (mono_times_assoc o anti);
+  times_comm = times_poly_comm integer_laws fo fa (mono_times nat_cmp) (mono_times_comm o anti);
+  times_one = λ p c. one_times integer_laws fo fa (mono_times nat_cmp) [] p c.canonical (each_times_one p c.monomials);
+  distributes = times_plus integer_laws fo fa (mono_times nat_cmp);
+}
+
+pub no_divisors_of_zero : NoZeroDivisors
+no_divisors_of_zero p q c d =
+    no_zero_divisors fo fa (mono_times nat_cmp) (mono_times_comm o anti) (λ m. IsCanonical nat_cmp exponents m)
+    (falling-mono_times o anti)
+    p q c.canonical d.canonical c.monomials d.monomials
+
+pub grevlex_is_its_words : GrevlexIsItsWords
+grevlex_is_its_words = record {
+  below = λ m n c d. (grevlex_less o anti m n c.canonical d.canonical, less_grevlex o anti m n c.canonical d.canonical);
+  equal = grevlex_anti o anti;
+  total = grevlex_total o anti;
+  kept = λ m n k c d below. kept o anti m n k below;
+}
+
+pub division_is_by_products : DivisionIsByProducts
+division_is_by_products = record {
+  quotient = λ d m c divides. (mono_over nat_cmp m d, times_over o anti m d c.canonical divides);
+  product = divides_product o anti;
+}
+
+pub lcm_is_least : LcmIsLeast
+lcm_is_least = record {
+  left = λ a b c k. let e = exponent-lcm o anti k a b c.canonical in grind (arith, e);
+  right = λ a b c k. let e = exponent-lcm o anti k a b c.canonical in grind (arith, e);
+  least = λ a b m c left right k. let e = exponent-lcm o anti k a b c.canonical in grind (arith, e, left k, right k);
+}

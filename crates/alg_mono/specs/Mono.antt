@@ -1,0 +1,12 @@
+-- Monomials over atoms by number.
+use Rattle.std.specs.Prelude.{ℕ, List, ◌≤◌}
+use Rattle.std.specs.Ordering.{nat_cmp}
+use Rattle.alg_mono.specs.Monomials.{exponent}
+
+-- an atom's number, then its exponent
+abbrev pub Pairs : Type 0
+Pairs = List (ℕ × ℕ)
+
+-- the pair's exponent is at most that of its atom in m
+abbrev pub FitsIn : Pairs → ℕ × ℕ → Type 0
+FitsIn m pair = pair.1 ≤ exponent nat_cmp pair.0 m

@@ -1,0 +1,17 @@
+-- What each refusal tells.
+use Rattle.std.specs.Prelude.{◌≡◌, ◌<◌, ℕ}
+use Rattle.alg_mono.specs.Monomials.{MAX_DEGREE}
+use Rattle.alg_mono.specs.Outcomes.{Outcome}
+use Rattle.alg_mono.specs.declared.ends.Overrun.{Overrun}
+use Rattle.alg_mono.specs.declared.ends.MonoEnd.{MonoEnd}
+
+-- the refusal names the rule that is broken; want of memory tells nothing
+abbrev pub Tells : Overrun → Outcome → Type 0
+Tells Overrun.Range outcome = outcome ≡ Outcome.Range
+Tells Overrun.Degree outcome = outcome ≡ Outcome.Degree
+Tells Overrun.NoMemory outcome = Unit {0}
+
+-- a monomial is refused only where this would be its degree, and it is over the limit; want of memory tells nothing
+abbrev pub IsOver : ℕ → MonoEnd → Type 0
+IsOver degree MonoEnd.Degree = MAX_DEGREE < degree
+IsOver degree MonoEnd.NoMemory = Unit {0}
