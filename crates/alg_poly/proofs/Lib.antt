@@ -1,0 +1,12 @@
+pub mod Order
+pub mod Leads
+pub mod Turns
+pub mod Limits
+pub mod Rows
+pub mod Parts
+pub mod Powers
+pub mod Zeros
+pub mod Multiples
+pub mod Differences
+pub mod DifferenceTurns
+pub mod Contents

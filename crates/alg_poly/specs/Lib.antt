@@ -1,0 +1,9 @@
+pub mod Poly
+pub mod Divisors
+pub use Rattle.alg_mono.specs.FiniteMaps
+pub use Rattle.alg_mono.specs.Numbers
+pub use Rattle.alg_mono.specs.Monomials
+pub use Rattle.alg_mono.specs.Grevlex
+pub use Rattle.alg_mono.specs.Polynomials
+pub use Rattle.alg_mono.specs.Outcomes
+pub use Rattle.alg_mono.specs.Refusals

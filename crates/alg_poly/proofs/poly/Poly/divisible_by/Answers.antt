@@ -1,0 +1,23 @@
+use Rattle.std.specs.Prelude.{◌≡◌, ◌%◌, ◌↔◌, ℤ, pos, ◌≤ℤ◌, All, IsTrue, unsigned_abs}
+use Rattle.std.proofs.Common.{rules, subst, ◌∙◌}
+use mir.Syntax.{w128}
+use mir.Val.{SFits}
+use Rattle.alg_poly.specs.Poly.{Monomial, Polynomial}
+use Rattle.alg_poly.proofs.Contents.{divides_each}
+use Rattle.alg_poly.proofs.poly.Poly.divisible_by.Goals as goal
+
+pub returns-then-d-ge1 : goal.returns-then-d-ge1
+returns-then-d-ge1 c =
+    let d = c.args.d in
+    let p = c.args.self.now in
+    let answer = c.divides_each.result in
+    let fits : SFits w128 d = search rules in
+    let low : pos 1 ≤ℤ d = search rules in
+    let magnitude : c.unsigned_abs.result ≡ unsigned_abs d = search rules in
+    let now = c.deref.ensures.value ∙ c.self.view_is in
+    let tested =
+    subst (λ (q : Polynomial). IsTrue answer ↔ All (λ (e : Monomial × ℤ). unsigned_abs e.1 % unsigned_abs d ≡ 0) q) now
+    (subst (λ n. IsTrue answer ↔ All (λ (e : Monomial × ℤ). unsigned_abs e.1 % n ≡ 0) c.deref.result.now) magnitude
+    c.divides_each.ensures) in
+    let same = divides_each (unsigned_abs d) p in
+    (λ h. (low, same.0 (tested.0 h)), λ h. tested.1 (same.1 h.1))
