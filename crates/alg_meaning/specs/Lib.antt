@@ -1,0 +1,17 @@
+pub mod Atoms
+pub mod PolynomialOf
+pub mod Values
+pub mod Factors
+pub mod Orders
+pub mod Laws
+pub mod Fractions
+pub mod Trees
+pub mod Conditions
+pub mod ConditionWords
+pub mod FractionValues
+pub mod TermOutcome
+pub mod FractionOutcome
+pub mod Uses
+pub mod Free
+pub mod FreeLaws
+pub mod FreeValues
