@@ -1,0 +1,13 @@
+pub mod Laws
+pub mod Failing
+pub mod Turns
+pub mod Variants
+pub mod Leaves
+pub mod Chains
+pub mod Cutting
+pub mod Trees
+pub mod Sequences
+pub mod Choices
+pub mod Bodies
+pub mod Places
+pub mod Outcomes

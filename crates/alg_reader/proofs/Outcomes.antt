@@ -1,0 +1,319 @@
+-- From the tokens of a statement and what the grammar says of them to the statement of the text, or its first fault.
+use Rattle.std.proofs.Common.{◌≡◌, ◌≢◌, ℕ, Bool, true, false, ◌&&◌, ◌==◌, not, List, [], ◌∷◌, ◌++◌, ◌⊎◌, inl, inr, length, length-append, drop, refl, ap, sym, ◌∙◌, subst, arith, append_assoc, append-nil, Option, Some, None, is_none, Ok, Err, eq-eqb}
+use Rattle.alg_tokens.specs.declared.token.Token.{Token}
+use Rattle.alg_tokens.specs.declared.token.Refusal.{Refusal}
+use Rattle.alg_tokens.specs.declared.token.TokenKind.{TokenKind}
+use Rattle.alg_tokens.specs.declared.token.TokenKind.TheVariants as kinds
+use Rattle.alg_tokens.specs.declared.token.Sign.TheVariants as signs
+use Rattle.alg_tokens.specs.declared.token.Word.TheVariants as words
+use Rattle.alg_tokens.specs.Next.{IsNext}
+use Rattle.alg_reader.specs.Kinds.{variant, code}
+use Rattle.alg_reader.specs.Forms as rules
+use Rattle.alg_reader.specs.Forms.{Rule, Statement, Form, a, seq, alt, opt, many, rule, Tree, token, pair, left, right, none, some, end, more, node, spelled}
+use Rattle.alg_reader.specs.Grammar.{grammar, Fits, IsBegun, body}
+use Rattle.alg_reader.specs.Reading.{Takes, Stops, EndsAtNsatz, MethodEnds, rule_goes_on}
+use Rattle.alg_reader.specs.Tokens.{refusal, refusal_of, TokensTo, open_with, open_after, last_kind, bar, GoesPast, HasNoDot, Reaches, IsStatementCut}
+use Rattle.alg_reader.specs.declared.raw.RawKind.{RawKind}
+use Rattle.alg_reader.specs.Meaning.{kind_value}
+use Rattle.alg_reader.specs.declared.reading.FileEnd.TheVariants.{Refused}
+use Rattle.alg_reader.specs.Statements.{IsRead}
+use Rattle.alg_reader.proofs.Cutting.{tokens_more, past_more}
+use Rattle.alg_reader.proofs.Variants.{is_dot}
+use Rattle.alg_reader.proofs.Places.{split_end, split_token, tokens_split, past_split, dot_split, prefix_of, no_dot_append, statement_dot, head_or}
+
+-- ---- the outcome
+
+-- where no dot was, none is
+dot_in : (front after : List Token) (d : Token) → d.kind ≡ kinds.Sign signs.Dot → HasNoDot (front ++ d ∷ after) → ⊥
+dot_in [] after d is (other, _) = other is
+dot_in (x ∷ front) after d is (_, clear) = dot_in front after d is clear
+
+-- the first dots of one list are one
+first_dot : (before front after back : List Token) (t d : Token) → HasNoDot before → HasNoDot front
+    → t.kind ≡ kinds.Sign signs.Dot → d.kind ≡ kinds.Sign signs.Dot
+    → before ++ t ∷ after ≡ front ++ d ∷ back → (before ≡ front) × (t ≡ d) × (after ≡ back)
+first_dot [] [] after back t d _ _ is so same = (refl, ap (λ us. head_or us t) same, ap (drop 1) same)
+first_dot [] (y ∷ front) after back t d _ (other, _) is so same =
+    let first : t ≡ y = ap (λ us. head_or us t) same in absurd (other (ap (λ u. u.kind) (sym first) ∙ is))
+first_dot (x ∷ before) [] after back t d (other, _) _ is so same =
+    let first : x ≡ d = ap (λ us. head_or us x) same in absurd (other (ap (λ u. u.kind) first ∙ so))
+first_dot (x ∷ before) (y ∷ front) after back t d (_, clear) (_, none_here) is so same =
+    let first : x ≡ y = ap (λ us. head_or us x) same in
+    let (fore, one, rest) = first_dot before front after back t d clear none_here is so (ap (drop 1) same) in
+    (ap (λ u. u ∷ before) first ∙ ap (λ us. y ∷ us) fore, one, rest)
+
+begun_front : (f : Form) (xs ys : List Token) → IsBegun f (xs ++ ys) → IsBegun f xs
+begun_front f xs ys (v, back, fits, e) = (v, ys ++ back, fits, e ∙ append_assoc xs ys back)
+
+-- stuck at a token: with it no statement begins
+stuck_there : (ts rest : List Token) (t : Token) (p : Stops (rule Statement) ts (t ∷ rest))
+    → IsBegun (rule Statement) (p.seen ++ t ∷ []) → ⊥
+stuck_there ts rest t p b = p.stuck b.0 [] (t ∷ b.1) (t, rest, b.1, refl, refl) b.2 tt (append-nil (spelled b.0)
+    ∙ b.3 ∙ append_assoc p.seen (t ∷ []) b.1)
+
+-- a dot bars nothing
+dot_free : (depth : ℕ) (last : Option TokenKind) (kind : TokenKind) → kind ≡ kinds.Sign signs.Dot
+    → bar depth last kind ≡ None
+dot_free depth last kind is = let P : TokenKind → Type 0 = λ k. bar depth last k ≡ None in subst P (sym is) refl
+
+-- where reading is stopped by a token that is no dot, no token is one
+stopped_no_dot : (text : List ℕ) (at : ℕ) (before : List Token) (t : Token) (n : ℕ) → HasNoDot before
+    → bar (open_after 0 before) (last_kind None before) t.kind ≡ Some n → HasNoDot (before ++ t ∷ [])
+stopped_no_dot text at before t n clear barred =
+    no_dot_append before (t ∷ []) clear (
+      λ is. let clash = ap (λ r. is_none r) (sym barred
+          ∙ dot_free (open_after 0 before) (last_kind None before) t.kind is) in cc,
+      tt,
+    )
+
+-- without a dot there is no statement
+no_statement : (ts new : List Token) (e : Token) (v : Tree) → e.kind ≡ kinds.End → HasNoDot ts
+    → Fits (rule Statement) v → ts ++ e ∷ [] ≡ spelled v ++ new → ⊥
+no_statement ts new e v is clear fits cut =
+    let (front, d, spell, dot, _) = statement_dot v fits in
+    let whole : ts ++ e ∷ [] ≡ front ++ d ∷ new = cut ∙ ap (λ us. us ++ new) spell ∙ append_assoc front (d ∷ []) new in
+    dot_in front new d dot (subst HasNoDot whole (no_dot_append ts (e ∷ []) clear (
+      λ other.
+          (let clash : kinds.End ≡ kinds.Sign signs.Dot = sym is ∙ other in cc),
+      tt,
+    )))
+
+first_of : (before : List Token) (t : Token) → (first : Token) × (after : List Token)
+    × (before ++ t ∷ [] ≡ first ∷ after)
+first_of [] t = (t, [], refl)
+first_of (x ∷ before) t = (x, before ++ t ∷ [], refl)
+
+-- all tokens to the dot are the statement
+whole_statement : (text : List ℕ) (at mid start stop : ℕ) (ts before new : List Token) (t e : Token)
+    (kind : RawKind) → ts ≡ before ++ t ∷ [] → Reaches text at before mid → IsNext text mid (Ok t)
+    → t.kind ≢ kinds.End → t.kind ≡ kinds.Sign signs.Dot → Takes (rule Statement) (ts ++ e ∷ []) new (kind_value kind)
+    → ((u : Token) (us : List Token) → ts ≡ u ∷ us → start ≡ u.start) → ((us : List Token) (u : Token)
+    → ts ≡ us ++ u ∷ [] → stop ≡ u.stop)
+    → IsRead text at (Ok (record { kind = kind; start = start; stop = stop }))
+whole_statement text at mid start stop ts before new t e kind same (to, past, clear) next lexeme dot p starts stops =
+    let (front, d, spell, is, none_before) = statement_dot p.tree p.fits in
+    let long : before ++ t ∷ (e ∷ []) ≡ front ++ d ∷ new =
+    sym (append_assoc before (t ∷ []) (e ∷ [])) ∙ ap (λ us. us ++ e ∷ []) (sym same) ∙ p.cut
+    ∙ ap (λ us. us ++ new) spell ∙ append_assoc front (d ∷ []) new in
+    let (fore, one, _) = first_dot before front (e ∷ []) new t d clear none_before dot is long in
+    let all : spelled p.tree ≡ ts = spell ∙ ap (λ us. us ++ d ∷ []) (sym fore)
+    ∙ ap (λ u. before ++ u ∷ []) (sym one) ∙ sym same in
+    let (first, after, split) = first_of before t in
+    let shown : ts ≡ first ∷ after = same ∙ split in
+    let here : TokensTo text at (before ++ t ∷ []) t.stop = tokens_more text at mid before t to next lexeme in
+    let free : GoesPast 0 None (before ++ t ∷ []) = past_more 0 None before t past (dot_free (open_after 0 before)
+    (last_kind None before) t.kind dot) in
+    let P : ℕ → Type 0 = λ n. TokensTo text at (first ∷ after) n in
+    let Q : List Token → Type 0 = λ us. TokensTo text at us t.stop in
+    inr (
+      first,
+      after,
+      subst P (sym (stops before t same)) (subst Q split here),
+      subst (GoesPast 0 None) split free,
+      (p.tree, p.fits, all ∙ shown, p.means),
+      starts first after shown,
+    )
+
+pub read_ok : (text : List ℕ) (at start stop : ℕ) (ts new : List Token) (fault : Refusal) (e : Token)
+    (kind : RawKind) → e.kind ≡ kinds.End → IsStatementCut text at ts fault
+    → Takes (rule Statement) (ts ++ e ∷ []) new (kind_value kind)
+    → ((u : Token) (us : List Token) → ts ≡ u ∷ us → start ≡ u.start) → ((us : List Token) (u : Token)
+    → ts ≡ us ++ u ∷ [] → stop ≡ u.stop)
+    → IsRead text at (Ok (record { kind = kind; start = start; stop = stop }))
+read_ok text at start stop ts new fault e kind is (inl (
+  mid,
+  (_, _, clear),
+  _,
+)) p starts stops = absurd (no_statement ts new e p.tree is clear p.fits p.cut)
+read_ok text at start stop ts new fault e kind is (inr (inl (
+  mid,
+  (_, _, clear),
+  _,
+  _,
+))) p starts stops = absurd (no_statement ts new e p.tree is clear p.fits p.cut)
+read_ok text at start stop ts new fault e kind is (inr (inr (
+  before,
+  t,
+  mid,
+  same,
+  reaches,
+  next,
+  lexeme,
+  inl dot,
+))) p starts stops =
+    whole_statement text at mid start stop ts before new t e kind same reaches next lexeme dot p starts stops
+read_ok text at start stop ts new fault e kind is (inr (inr (
+  before,
+  t,
+  mid,
+  same,
+  reaches,
+  next,
+  lexeme,
+  inr (barred, _),
+))) p starts stops =
+    absurd (no_statement ts new e p.tree is (subst HasNoDot (sym same)
+    (stopped_no_dot text at before t fault.code reaches.2 barred)) p.fits p.cut)
+
+-- ---- refused
+
+end_or_not : (kind : TokenKind) → (kind ≡ kinds.End) ⊎ (kind ≢ kinds.End)
+end_or_not kinds.End = inl refl
+end_or_not kinds.Name = inr (λ h. cc)
+end_or_not (kinds.Word word) = inr (λ h. cc)
+end_or_not (kinds.Number value) = inr (λ h. cc)
+end_or_not (kinds.Sign sign) = inr (λ h. cc)
+
+refusal_at_end : (t : Token) (fault : Refusal) → t.kind ≡ kinds.End → refusal t fault ≡ fault
+refusal_at_end t fault is = let P : TokenKind → Type 0 = λ k. refusal_of k t.start fault ≡ fault in
+    subst P (sym is) refl
+
+refusal_of_kind : (kind : TokenKind) (at : ℕ) (fault : Refusal) → kind ≢ kinds.End
+    → refusal_of kind at fault ≡ record { code = 4; at = at }
+refusal_of_kind kinds.End at fault other = absurd (other refl)
+refusal_of_kind kinds.Name at fault other = refl
+refusal_of_kind (kinds.Word word) at fault other = refl
+refusal_of_kind (kinds.Number value) at fault other = refl
+refusal_of_kind (kinds.Sign sign) at fault other = refl
+
+-- stuck at a token of the statement
+stuck_token : (text : List ℕ) (at stop : ℕ) (ts seen after : List Token) (t : Token) (fault : Refusal)
+    → TokensTo text at ts stop → GoesPast 0 None seen → HasNoDot seen → ts ≡ seen ++ t ∷ after
+    → IsBegun (rule Statement) seen → (IsBegun (rule Statement) (seen ++ t ∷ []) → ⊥) → t.kind ≢ kinds.End
+    → IsRead text at (Err (Refused (refusal t fault)))
+stuck_token text at stop ts seen after t fault to past clear same begun stuck lexeme =
+    let P : List Token → Type 0 = λ us. TokensTo text at us stop in
+    let (mid, front, next, _) = tokens_split text at stop seen after t (subst P same to) in
+    let Q : Refusal → Type 0 = λ r. IsRead text at (Err (Refused r)) in
+    subst Q (sym (refusal_of_kind t.kind t.start fault lexeme))
+    (seen, mid, (front, past, clear), begun, inr (inr (t, next, lexeme, refl, inl (refl, stuck))))
+
+-- a token among all of them
+stuck_inside : (text : List ℕ) (at : ℕ) (ts seen rest : List Token) (e t : Token) (fault : Refusal)
+    → e.kind ≡ kinds.End → IsStatementCut text at ts fault
+    → ts ++ e ∷ [] ≡ seen ++ t ∷ rest → IsBegun (rule Statement) seen
+    → (IsBegun (rule Statement) (seen ++ t ∷ []) → ⊥) → t.kind ≢ kinds.End
+    → IsRead text at (Err (Refused (refusal t fault)))
+stuck_inside text at ts seen rest e t fault is (inl (mid, (to, past, clear), _)) cut begun stuck lexeme =
+    let (after, same) = split_token ts seen rest e t is lexeme cut in
+    stuck_token text at mid ts seen after t fault to (past_split 0 None seen (t ∷ after) (subst
+    (GoesPast 0 None) same past)) (dot_split seen (t ∷ after) (subst HasNoDot same clear)) same begun stuck lexeme
+stuck_inside text at ts seen rest e t fault is (inr (inl (mid, (to, past, clear), _, _))) cut begun stuck lexeme =
+    let (after, same) = split_token ts seen rest e t is lexeme cut in
+    stuck_token text at mid ts seen after t fault to (past_split 0 None seen (t ∷ after) (subst
+    (GoesPast 0 None) same past)) (dot_split seen (t ∷ after) (subst HasNoDot same clear)) same begun stuck lexeme
+stuck_inside text at ts seen rest e t fault is (inr (inr (
+  before,
+  last,
+  mid,
+  split,
+  (to, past, clear),
+  next,
+  here,
+  _,
+))) cut begun stuck lexeme =
+    let (after, same) = split_token ts seen rest e t is lexeme cut in
+    let (tail, front) = prefix_of before seen after last t (sym split ∙ same) in
+    let P : List Token → Type 0 = λ us. TokensTo text at us last.stop in
+    stuck_token text at last.stop ts seen after t fault (subst P (sym split)
+    (tokens_more text at mid before last to next here))
+    (past_split 0 None seen tail (subst (GoesPast 0 None) front past)) (dot_split seen tail
+    (subst HasNoDot front clear)) same begun stuck lexeme
+
+-- stuck behind a dot: the tokens are a statement
+never_behind_dot : (before us rest : List Token) (last t : Token) (p : Stops (rule Statement) us (t ∷ rest))
+    → p.seen ≡ before ++ last ∷ [] → HasNoDot before
+    → last.kind ≡ kinds.Sign signs.Dot → t.kind ≡ kinds.End → ⊥
+unfolding rule_goes_on
+never_behind_dot before us rest last t p all clear dot is =
+    let (v, later, fits, e) = p.begun in
+    let (front, d, spell, so, none_before) = statement_dot v fits in
+    let long : before ++ last ∷ later ≡ front ++ d ∷ [] = sym (append_assoc before (last ∷ []) later)
+    ∙ ap (λ us. us ++ later) (sym all) ∙ sym e ∙ spell in
+    let (_, _, nothing_left) = first_dot before front later [] last d clear none_before dot so long in
+    let whole : spelled v ≡ p.seen = e ∙ ap (λ us. p.seen ++ us) nothing_left ∙ append-nil p.seen in
+    p.stuck v (t ∷ rest) (t ∷ rest) (t, rest, rest, refl, refl) fits refl (ap (λ us. us ++ t ∷ rest) whole)
+
+-- stuck behind all tokens
+stuck_behind : (text : List ℕ) (at : ℕ) (ts us rest : List Token) (t : Token) (fault : Refusal)
+    → IsStatementCut text at ts fault → (p : Stops (rule Statement) us (t ∷ rest))
+    → p.seen ≡ ts → t.kind ≡ kinds.End → (ts ≡ [] → fault.code ≡ 5 → ⊥) → IsRead text at (Err (Refused fault))
+stuck_behind text at ts us rest t fault (inl (mid, reaches, next)) p all is inside = (
+  ts,
+  mid,
+  reaches,
+  subst (IsBegun (rule Statement)) all p.begun,
+  inl next,
+)
+stuck_behind text at ts us rest t fault (inr (inl (mid, reaches, next, five))) p all is inside = (
+  ts,
+  mid,
+  reaches,
+  subst (IsBegun (rule Statement)) all p.begun,
+  inr (inl (
+    next,
+    λ empty. inside empty (ap (λ r. r.code) five),
+    five,
+  )),
+)
+stuck_behind text at ts us rest t fault (inr (inr (
+  before,
+  last,
+  mid,
+  split,
+  reaches,
+  next,
+  lexeme,
+  inl dot,
+))) p all is inside =
+    absurd (never_behind_dot before us rest last t p (all ∙ split) reaches.2 dot is)
+stuck_behind text at ts us rest t fault (inr (inr (
+  before,
+  last,
+  mid,
+  split,
+  reaches,
+  next,
+  lexeme,
+  inr (
+    barred,
+    place,
+  ),
+))) p all is inside =
+    let begun : IsBegun (rule Statement) (before ++ last ∷ []) = subst (IsBegun (rule Statement)) (all
+    ∙ split) p.begun in (
+      before,
+      mid,
+      reaches,
+      begun_front (rule Statement) before (last ∷ []) begun,
+      inr (inr (
+        last,
+        next,
+        lexeme,
+        place,
+        inr (barred, begun),
+      )),
+    )
+
+cut_tokens : (text : List ℕ) (at : ℕ) (ts : List Token) (fault : Refusal) → IsStatementCut text at ts fault
+    → (stop : ℕ) × TokensTo text at ts stop
+cut_tokens text at ts fault (inl (mid, (to, _, _), _)) = (mid, to)
+cut_tokens text at ts fault (inr (inl (mid, (to, _, _), _, _))) = (mid, to)
+cut_tokens text at ts fault (inr (inr (before, last, mid, split, (to, _, _), next, lexeme, _))) =
+    let P : List Token → Type 0 = λ us. TokensTo text at us last.stop in
+    (last.stop, subst P (sym split) (tokens_more text at mid before last to next lexeme))
+
+pub read_refused : (text : List ℕ) (at : ℕ) (ts rest : List Token) (e t : Token) (fault : Refusal)
+    → e.kind ≡ kinds.End → IsStatementCut text at ts fault
+    → (ts ≡ [] → fault.code ≡ 5 → ⊥) → Stops (rule Statement) (ts ++ e ∷ []) (t ∷ rest)
+    → IsRead text at (Err (Refused (refusal t fault)))
+read_refused text at ts rest e t fault is cut inside p = elim (end_or_not t.kind) [
+  | inr lexeme ↦ stuck_inside text at ts p.seen rest e t fault is cut p.cut p.begun (stuck_there
+      (ts ++ e ∷ []) rest t p) lexeme
+  | inl ended ↦
+      let (mid, to) = cut_tokens text at ts fault cut in
+      let (all, _) = split_end text at mid ts p.seen rest e t to ended p.cut in
+      let Q : Refusal → Type 0 = λ r. IsRead text at (Err (Refused r)) in
+      subst Q (sym (refusal_at_end t fault ended)) (stuck_behind text at ts
+      (ts ++ e ∷ []) rest t fault cut p all ended inside)
+]

@@ -1,0 +1,203 @@
+-- Places in the tokens of a statement: where `by nsatz` stands, the end, a token at which reading is stuck, and
+-- the dot.
+use Rattle.std.proofs.Common.{◌≡◌, ◌≢◌, ℕ, Bool, true, false, ◌&&◌, ◌==◌, not, List, [], ◌∷◌, ◌++◌, ◌⊎◌, inl, inr, length, length-append, drop, refl, ap, sym, ◌∙◌, subst, arith, append_assoc, append-nil, Option, Some, None, is_none, Ok, Err, eq-eqb}
+use Rattle.alg_tokens.specs.declared.token.Token.{Token}
+use Rattle.alg_tokens.specs.declared.token.Refusal.{Refusal}
+use Rattle.alg_tokens.specs.declared.token.TokenKind.{TokenKind}
+use Rattle.alg_tokens.specs.declared.token.TokenKind.TheVariants as kinds
+use Rattle.alg_tokens.specs.declared.token.Sign.TheVariants as signs
+use Rattle.alg_tokens.specs.declared.token.Word.TheVariants as words
+use Rattle.alg_tokens.specs.Next.{IsNext}
+use Rattle.alg_reader.specs.Kinds.{variant, code}
+use Rattle.alg_reader.specs.Forms as rules
+use Rattle.alg_reader.specs.Forms.{Rule, Statement, Form, a, seq, alt, opt, many, rule, Tree, token, pair, left, right, none, some, end, more, node, spelled}
+use Rattle.alg_reader.specs.Grammar.{grammar, Fits, IsBegun, body}
+use Rattle.alg_reader.specs.Reading.{Takes, Stops, EndsAtNsatz, MethodEnds, rule_goes_on}
+use Rattle.alg_reader.specs.Tokens.{refusal, refusal_of, TokensTo, open_with, open_after, last_kind, bar, GoesPast, HasNoDot, Reaches, IsStatementCut}
+use Rattle.alg_reader.specs.declared.raw.RawKind.{RawKind}
+use Rattle.alg_reader.specs.Meaning.{kind_value}
+use Rattle.alg_reader.specs.declared.reading.FileEnd.TheVariants.{Refused}
+use Rattle.alg_reader.specs.Statements.{IsRead}
+use Rattle.alg_reader.proofs.Cutting.{tokens_more, past_more}
+use Rattle.alg_reader.proofs.Variants.{is_dot}
+
+-- ---- nsatz is the last of the tokens
+
+pub by_nsatz : (depth : ℕ) (t u : Token) → t.kind ≡ kinds.Word words.By → u.kind ≡ kinds.Word words.Nsatz
+    → bar depth (Some t.kind) u.kind ≡ None → ⊥
+by_nsatz depth t u by nsatz free =
+    let barred : bar depth (Some t.kind) u.kind ≡ Some 20 = rw (by, nsatz) refl in
+    let clash = ap (λ r. is_none r) (sym barred ∙ free) in
+    cc
+
+pub past_ends : (depth : ℕ) (last : Option TokenKind) (before tail : List Token) → GoesPast depth last before
+    → MethodEnds tail → EndsAtNsatz tail → EndsAtNsatz (before ++ tail)
+past_ends depth last [] tail past here ends = ends
+past_ends depth last (t ∷ []) tail past here ends = (λ _. here, ends)
+past_ends depth last (t ∷ u ∷ before) tail (_, (free, past)) here ends = (
+  λ by nsatz. absurd (by_nsatz (open_with depth t.kind) t u by nsatz free),
+  past_ends (open_with depth t.kind) (Some t.kind) (u ∷ before) tail (free, past) here ends,
+)
+
+pub no_nsatz : (e : Token) → e.kind ≡ kinds.End → MethodEnds (e ∷ [])
+no_nsatz e is h = let clash : kinds.End ≡ kinds.Word words.Nsatz = sym is ∙ h in cc
+
+pub no_by : (e : Token) → e.kind ≡ kinds.End → EndsAtNsatz (e ∷ [])
+no_by e is = (λ h. tt, tt)
+
+-- the tokens of a statement, with the end behind them
+pub cut_ends : (text : List ℕ) (at : ℕ) (tokens : List Token) (fault : Refusal) (e : Token) → e.kind ≡ kinds.End
+    → IsStatementCut text at tokens fault → EndsAtNsatz (tokens ++ e ∷ [])
+cut_ends text at tokens fault e is (inl (
+  stop,
+  reaches,
+  _,
+)) = past_ends 0 None tokens (e ∷ []) reaches.1 (no_nsatz e is) (no_by e is)
+cut_ends text at tokens fault e is (inr (inl (
+  stop,
+  reaches,
+  _,
+  _,
+))) = past_ends 0 None tokens (e ∷ []) reaches.1 (no_nsatz e is) (no_by e is)
+cut_ends text at tokens fault e is (inr (inr (before, t, stop, same, reaches, _, _, _))) =
+    let P : List Token → Type 0 = λ ts. EndsAtNsatz (ts ++ e ∷ []) in
+    let whole : (before ++ t ∷ []) ++ e ∷ [] ≡ before ++ (t ∷ e ∷ []) = append_assoc before (t ∷ []) (e ∷ []) in
+    subst P (sym same) (subst EndsAtNsatz (sym whole) (past_ends 0 None before (t ∷ e ∷ []) reaches.1 (λ _. is)
+    (λ _. no_nsatz e is, no_by e is)))
+
+-- ---- places in lists of tokens
+
+-- the first token, or another one
+abbrev pub head_or : List Token → Token → Token
+head_or [] t = t
+head_or (u ∷ us) t = u
+
+-- the only end is the last token
+pub split_end : (text : List ℕ) (at stop : ℕ) (ts seen rest : List Token) (e t : Token) → TokensTo text at ts stop
+    → t.kind ≡ kinds.End → ts ++ e ∷ [] ≡ seen ++ t ∷ rest → (seen ≡ ts) × (rest ≡ [])
+split_end text at stop [] [] rest e t to is same = (refl, sym (ap (drop 1) same))
+split_end text at stop [] (s ∷ seen) rest e t to is same =
+    let long = ap length (ap (drop 1) same) ∙ length-append seen (t ∷ rest) in absurd (omega arith)
+split_end text at stop (x ∷ ts) [] rest e t (_, lexeme, _) is same =
+    let first : x ≡ t = ap (λ us. head_or us t) same in absurd (lexeme (ap (λ u. u.kind) first ∙ is))
+split_end text at stop (x ∷ ts) (s ∷ seen) rest e t (_, _, to) is same =
+    let first : x ≡ s = ap (λ us. head_or us s) same in
+    let (front, back) = split_end text x.stop stop ts seen rest e t to is (ap (drop 1) same) in
+    (ap (λ u. u ∷ seen) (sym first) ∙ ap (λ us. x ∷ us) front, back)
+
+pub split_token : (ts seen rest : List Token) (e t : Token) → e.kind ≡ kinds.End → t.kind ≢ kinds.End
+    → ts ++ e ∷ [] ≡ seen ++ t ∷ rest → (after : List Token) × (ts ≡ seen ++ t ∷ after)
+split_token [] [] rest e t is lexeme same = let first : e ≡ t = ap (λ us. head_or us t) same in
+    absurd (lexeme (sym (ap (λ u. u.kind) first) ∙ is))
+split_token [] (s ∷ seen) rest e t is lexeme same = let long = ap length (ap (drop 1) same)
+    ∙ length-append seen (t ∷ rest) in absurd (omega arith)
+split_token (x ∷ ts) [] rest e t is lexeme same = (ts, ap (λ u. u ∷ ts) (ap (λ us. head_or us t) same))
+split_token (x ∷ ts) (s ∷ seen) rest e t is lexeme same =
+    let first : x ≡ s = ap (λ us. head_or us s) same in
+    let (after, front) = split_token ts seen rest e t is lexeme (ap (drop 1) same) in
+    (after, ap (λ us. x ∷ us) front ∙ ap (λ u. u ∷ (seen ++ t ∷ after)) first)
+
+pub tokens_split : (text : List ℕ) (at stop : ℕ) (seen after : List Token) (t : Token)
+    → TokensTo text at (seen ++ t ∷ after) stop → (mid : ℕ) × TokensTo text at seen mid × IsNext text mid (Ok t)
+    × (t.kind ≢ kinds.End)
+tokens_split text at stop [] after t (next, lexeme, _) = (at, refl, next, lexeme)
+tokens_split text at stop (s ∷ seen) after t (next, lexeme, to) =
+    let (mid, front, here, is) = tokens_split text s.stop stop seen after t to in (mid, (next, lexeme, front), here, is)
+
+pub past_split : (depth : ℕ) (last : Option TokenKind) (seen after : List Token)
+    → GoesPast depth last (seen ++ after) → GoesPast depth last seen
+past_split depth last [] after past = tt
+past_split depth last (s ∷ seen) after (free, past) = (
+  free,
+  past_split (open_with depth s.kind) (Some s.kind) seen after past,
+)
+
+pub dot_split : (seen after : List Token) → HasNoDot (seen ++ after) → HasNoDot seen
+dot_split [] after clear = tt
+dot_split (s ∷ seen) after (first, clear) = (first, dot_split seen after clear)
+
+-- what stands before a token of a list without its last one stands before that last one
+pub prefix_of : (before seen after : List Token) (last t : Token) → before ++ last ∷ [] ≡ seen ++ t ∷ after
+    → (tail : List Token) × (before ≡ seen ++ tail)
+prefix_of before [] after last t same = (before, refl)
+prefix_of [] (s ∷ seen) after last t same = let long = ap length (ap (drop 1) same)
+    ∙ length-append seen (t ∷ after) in absurd (omega arith)
+prefix_of (x ∷ before) (s ∷ seen) after last t same =
+    let first : x ≡ s = ap (λ us. head_or us s) same in
+    let (tail, front) = prefix_of before seen after last t (ap (drop 1) same) in
+    (tail, ap (λ us. x ∷ us) front ∙ ap (λ u. u ∷ (seen ++ tail)) first)
+
+-- ---- the dot that ends a statement
+
+pub avoids : Form → Bool
+avoids (a k) = not (variant k == 4)
+avoids (seq f g) = avoids f && avoids g
+avoids (alt f g) = avoids f && avoids g
+avoids (opt f) = avoids f
+avoids (many f) = avoids f
+avoids (rule rules.Statement) = false
+avoids (rule r) = true
+
+pub rule_avoids : (r : Rule) → avoids (rule r) ≡ true → avoids (grammar r) ≡ true
+unfolding grammar avoids
+rule_avoids rules.Statement h = cc
+rule_avoids rules.Ring h = refl
+rule_avoids rules.Sort h = refl
+rule_avoids rules.Hom h = refl
+rule_avoids rules.Vars h = refl
+rule_avoids rules.Hyp h = refl
+rule_avoids rules.Goal h = refl
+rule_avoids rules.Method h = refl
+rule_avoids rules.Use h = refl
+rule_avoids rules.Sum h = refl
+rule_avoids rules.Product h = refl
+rule_avoids rules.Unary h = refl
+rule_avoids rules.Power h = refl
+rule_avoids rules.Leaf h = refl
+
+pub both_avoid : (x y : Bool) → (x && y) ≡ true → (x ≡ true) × (y ≡ true)
+both_avoid true y h = (refl, h)
+both_avoid false y h = cc
+
+pub no_dot_append : (xs ys : List Token) → HasNoDot xs → HasNoDot ys → HasNoDot (xs ++ ys)
+no_dot_append [] ys clear others = others
+no_dot_append (x ∷ xs) ys (first, clear) others = (first, no_dot_append xs ys clear others)
+
+pub token_no_dot : (k : TokenKind) (t : Token) → not (variant k == 4) ≡ true → variant k ≡ code t
+    → t.kind ≢ kinds.Sign signs.Dot
+token_no_dot k t h fits is =
+    let four : code t ≡ 4 = ap variant is in
+    let same : (variant k == 4) ≡ true = eq-eqb (variant k) 4 (fits ∙ four) in
+    let flip = ap not same in
+    cc
+
+pub no_dot : (f : Form) (v : Tree) → avoids f ≡ true → Fits f v → HasNoDot (spelled v)
+unfolding avoids
+no_dot (a k) (token t) h fits = (token_no_dot k t h fits, tt)
+no_dot (seq f g) (pair v w) h fits = let (first, second) = both_avoid _ _ h in
+    no_dot_append (spelled v) (spelled w) (no_dot f v first fits.0) (no_dot g w second fits.1)
+no_dot (alt f g) (left v) h fits = no_dot f v (both_avoid _ _ h).0 fits
+no_dot (alt f g) (right v) h fits = no_dot g v (both_avoid _ _ h).1 fits
+no_dot (opt f) none h fits = tt
+no_dot (opt f) (some v) h fits = no_dot f v h fits
+no_dot (many f) end h fits = tt
+no_dot (many f) (more v w) h fits = no_dot_append (spelled v) (spelled w) (no_dot f v h fits.0) (no_dot
+    (many f) w h fits.1)
+no_dot (rule r) (node q v) h fits = no_dot (grammar r) v (rule_avoids r h) fits.1
+no_dot _ _ h fits = absurd fits
+
+-- the tokens of a statement: none of them a dot but the last
+abbrev pub EndsInDot : List Token → Type 0
+EndsInDot ts = (front : List Token) × (d : Token) × (ts ≡ front ++ d ∷ []) × (d.kind ≡ kinds.Sign signs.Dot)
+    × HasNoDot front
+
+pub body_dot : (w : Tree) → Fits (seq body (a (kinds.Sign signs.Dot))) w → EndsInDot (spelled w)
+unfolding avoids
+body_dot (pair v (token d)) fits = (spelled v, d, refl, is_dot d.kind fits.1, no_dot body v refl fits.0)
+body_dot (pair v _) fits = absurd fits.1
+body_dot _ fits = absurd fits
+
+pub statement_dot : (v : Tree) → Fits (rule Statement) v → EndsInDot (spelled v)
+unfolding grammar
+statement_dot (node q w) fits = body_dot w fits.1
+statement_dot _ fits = absurd fits

@@ -1,0 +1,57 @@
+use Rattle.std.proofs.Common.{◌≡◌, refl, subst, ap, ◌∙◌, ◌++◌, ◌∷◌, [], List, arith, length}
+use Rattle.std.proofs.lemmas.Bool.Decides.{nat_tests}
+use Rattle.alg_tokens.specs.declared.token.Token.{Token}
+use Rattle.alg_reader.specs.Forms.{Statement, rule}
+use Rattle.alg_reader.specs.Meaning.{kind_value}
+use Rattle.alg_reader.specs.Reading.{Takes, Stops, Fails}
+use Rattle.alg_reader.specs.declared.cursor.Fault.TheVariants.{Unexpected}
+use Rattle.alg_tokens.specs.declared.token.TokenKind.TheVariants as kinds
+use Rattle.alg_reader.proofs.Places.{cut_ends}
+use Rattle.alg_reader.proofs.Outcomes.{read_ok, read_refused}
+use Rattle.alg_reader.proofs.reading.read_statement.Goals as goal
+use Rattle.alg_reader.proofs.reading.read_statement.Goals.{else-is_empty-via-then-is_empty+else-fault-eq-ENDS, else-is_empty-via-else-is_empty}
+
+pub statement-requires : goal.statement-requires
+statement-requires c =
+    let ends = cut_ends c.args.text.now c.args.at c.in_ok-cut.cut.tokens.items c.in_ok-cut.cut.fault _ refl
+    c.in_ok-cut.ensures in
+    rw (c.new-cursor.ensures, c.deref-2.ensures.value) ends
+
+-- the tokens are a statement
+pub returns-in-Ok : goal.returns-in-Ok
+returns-in-Ok c =
+    let tokens = c.in_ok-cut.cut.tokens.items in
+    let fault = c.in_ok-cut.cut.fault in
+    let e : Token = record { kind = kinds.End; start = fault.at; stop = fault.at } in
+    let whole : c.new-cursor.result ≡ tokens ++ e ∷ [] = c.new-cursor.ensures
+    ∙ ap (λ us. us ++ e ∷ []) c.deref-2.ensures.value in
+    let P : List Token → Type 0 = λ us. Takes (rule Statement) us c.statement.new.self (kind_value c.in-Ok.kind) in
+    read_ok c.args.text.now c.args.at c.ends_of-start.result.0 c.ends_of-start.result.1 tokens c.statement.new.self
+    fault e c.in-Ok.kind refl c.in_ok-cut.ensures
+    (subst P whole c.in-Ok.ensures)
+    (λ u us e. c.ends_of-start.ensures.start u us (c.deref.ensures.value ∙ e))
+    (λ us u e. c.ends_of-start.ensures.stop us u (c.deref.ensures.value ∙ e))
+
+-- the grammar is stuck
+pub returns : goal.returns
+returns c =
+    let tokens = c.in_ok-cut.cut.tokens.items in
+    let fault = c.in_ok-cut.cut.fault in
+    let e : Token = record { kind = kinds.End; start = fault.at; stop = fault.at } in
+    let whole : c.new-cursor.result ≡ tokens ++ e ∷ [] = c.new-cursor.ensures
+    ∙ ap (λ us. us ++ e ∷ []) c.deref-2.ensures.value in
+    let t = c.in-Err-Unexpected.token in
+    let fails : Fails (rule Statement) c.new-cursor.result (Unexpected t) = subst (Fails
+    (rule Statement) c.new-cursor.result) c.in-Err-Unexpected.field-0-is c.in-Err-Unexpected.ensures in
+    let (rest, stops) = fails in
+    let P : List Token → Type 0 = λ us. Stops (rule Statement) us (t ∷ rest) in
+    let some : tokens ≡ [] → fault.code ≡ 5 → ⊥ = λ nothing five.
+    let empty = ap length (c.deref.ensures.value ∙ nothing) in
+    elim c.else-is_empty.branch [
+      | else-is_empty-via-then-is_empty+else-fault-eq-ENDS w ↦ let other = w.if-fault-eq-ENDS.false in
+          grind (arith, nat_tests)
+      | else-is_empty-via-else-is_empty w ↦ let full = w.if-is_empty.false in
+          grind (arith, nat_tests, c.is_empty.ensures, c.deref.ensures.len)
+    ] in
+    rw c.refusal.ensures (read_refused c.args.text.now c.args.at tokens rest e t fault refl c.in_ok-cut.ensures
+    some (subst P whole stops))

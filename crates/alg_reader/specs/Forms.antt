@@ -1,0 +1,57 @@
+-- Grammars as data, their derivations, and the tokens that a derivation spells.
+use Rattle.std.specs.Prelude.{List, [], ◌∷◌, ◌++◌}
+use Rattle.alg_tokens.specs.declared.token.Token.{Token}
+use Rattle.alg_tokens.specs.declared.token.TokenKind.{TokenKind}
+
+-- the rules of the grammar
+pub data Rule : Type 0 where
+  Statement : Rule
+  Ring : Rule
+  Sort : Rule
+  Hom : Rule
+  Vars : Rule
+  Hyp : Rule
+  Goal : Rule
+  Method : Rule
+  Use : Rule
+  Sum : Rule
+  Product : Rule
+  Unary : Rule
+  Power : Rule
+  Leaf : Rule
+
+-- the right side of a rule
+pub data Form : Type 0 where
+  -- one token of this kind
+  a : TokenKind → Form
+  -- one after the other
+  seq : Form → Form → Form
+  -- the one or the other
+  alt : Form → Form → Form
+  -- once or not
+  opt : Form → Form
+  -- any number of times
+  many : Form → Form
+  rule : Rule → Form
+
+pub data Tree : Type 0 where
+  token : Token → Tree
+  pair : Tree → Tree → Tree
+  left : Tree → Tree
+  right : Tree → Tree
+  none : Tree
+  some : Tree → Tree
+  end : Tree
+  more : Tree → Tree → Tree
+  node : Rule → Tree → Tree
+
+abbrev pub spelled : Tree → List Token
+spelled (token t) = t ∷ []
+spelled (pair v w) = spelled v ++ spelled w
+spelled (left v) = spelled v
+spelled (right v) = spelled v
+spelled none = []
+spelled (some v) = spelled v
+spelled end = []
+spelled (more v w) = spelled v ++ spelled w
+spelled (node r v) = spelled v

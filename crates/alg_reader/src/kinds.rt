@@ -1,0 +1,26 @@
+//! The kinds of tokens that the grammar tells apart.
+
+ghost use Rattle.std.specs.Prelude.{◌≡◌, ◌↔◌, IsTrue};
+ghost use Rattle.alg_reader.specs.Kinds.{variant};
+
+use alg_tokens::{Sign, TokenKind, Word};
+
+fn variant(kind: TokenKind) -> u8
+    ensures { result ≡ variant kind }
+{
+    match kind {
+        TokenKind::Name => 0,
+        TokenKind::Number(0) => 1,
+        TokenKind::Number(_) => 2,
+        TokenKind::End => 3,
+        TokenKind::Sign(sign) => 4 + sign as u8,
+        TokenKind::Word(word) => 17 + word as u8,
+    }
+}
+
+/// Whether the grammar takes the two for one.
+pub fn same_kind(kind: TokenKind, other: TokenKind) -> bool
+    ensures { IsTrue result ↔ (variant other ≡ variant kind) }
+{
+    variant(kind) == variant(other)
+}

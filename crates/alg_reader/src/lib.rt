@@ -1,0 +1,16 @@
+//! The statements of a text.
+#![tactic(auto)]
+
+mod cursor;
+mod kinds;
+mod raw;
+mod reading;
+mod statements;
+mod terms;
+mod tokens;
+
+pub use raw::{RawEquation, RawKind, RawMethod, RawNode, RawNumber, RawTerm, Span};
+pub use reading::{FileEnd, Place, Raw, read_statement};
+
+#[cfg(test)]
+mod tests;

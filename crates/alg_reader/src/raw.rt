@@ -1,0 +1,86 @@
+//! Terms and statements as they were read, with the bytes of their names, numerals and heads.
+
+use alg_terms::{Kind, Seq};
+use sqlite_items::Boxed;
+
+/// A slice of the text.
+#[derive(Clone, Copy, PartialEq, Eq, Debug)]
+pub struct Span {
+    pub start: u32,
+    pub stop: u32,
+}
+
+/// A numeral with its first byte.
+#[derive(Clone, Copy, PartialEq, Eq, Debug)]
+pub struct RawNumber {
+    pub value: i128,
+    pub at: u32,
+}
+
+/// A node with the byte of its head.
+#[cycle(raw)]
+#[derive(Debug, Drop)]
+pub struct RawTerm {
+    pub head: u32,
+    pub node: RawNode,
+}
+
+#[cycle(raw)]
+#[derive(Debug, Drop)]
+pub enum RawNode {
+    Var(Span),
+    Int(i128),
+    Neg(Boxed<RawTerm>),
+    Add(Boxed<RawTerm>, Boxed<RawTerm>),
+    Sub(Boxed<RawTerm>, Boxed<RawTerm>),
+    Mul(Boxed<RawTerm>, Boxed<RawTerm>),
+    Div(Boxed<RawTerm>, Boxed<RawTerm>),
+    Pow(Boxed<RawTerm>, RawNumber),
+    Hom(Span, Boxed<RawTerm>),
+}
+
+/// Two sides with the byte of the `=` or `<>` between them, and whether it is `<>`.
+#[derive(Debug, Drop)]
+pub struct RawEquation {
+    pub left: RawTerm,
+    pub relation: u32,
+    pub nonzero: bool,
+    pub right: RawTerm,
+}
+
+/// The method of a goal.
+#[derive(Clone, Copy, PartialEq, Eq, Debug)]
+pub enum RawMethod {
+    Ring,
+    Field,
+    Nsatz,
+}
+
+/// What a statement says, or that the text ends.
+#[derive(Debug, Drop)]
+pub enum RawKind {
+    End,
+    Sort {
+        kind: Kind,
+        name: Span,
+        char0: bool,
+    },
+    Hom {
+        name: Span,
+        from: Span,
+        to: Span,
+    },
+    Vars {
+        names: Seq<Span>,
+        sort: Span,
+    },
+    Hyp {
+        name: Span,
+        equation: RawEquation,
+    },
+    Goal {
+        equation: RawEquation,
+        method: RawMethod,
+        method_at: u32,
+    },
+}

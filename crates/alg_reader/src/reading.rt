@@ -1,0 +1,113 @@
+//! One statement of a text.
+
+ghost use Rattle.std.specs.Prelude.{◌≡◌, ◌≤◌, ◌∷◌, ◌++◌, [], ℕ, List, length};
+ghost use Rattle.std.specs.Str.{IsCharBoundary};
+ghost use Rattle.alg_tokens.specs.declared.token.Token.{Token};
+ghost use Rattle.alg_reader.specs.Statements.{IsRead};
+ghost use Rattle.alg_reader.specs.Tokens.{refusal};
+
+use crate::cursor::{Cursor, Fault};
+use crate::raw::RawKind;
+use crate::tokens::{ENDS, cut_statement};
+use alg_tokens::{Refusal, Token, TokenKind};
+use std::alloc::{AllocError, Global};
+
+/// The code of a token with which no statement begins.
+const SYNTAX: u8 = 4;
+
+/// Which statements may stand at a place, by what stood before it.
+#[derive(Clone, Copy, PartialEq, Eq, Debug)]
+pub enum Place {
+    Plain,
+    Start,
+    AfterGoal,
+    Lines,
+    Steps,
+}
+
+/// A statement with its first byte and the byte behind its `.`.
+#[derive(Debug, Drop)]
+pub struct Raw {
+    pub kind: RawKind,
+    pub start: u32,
+    pub stop: u32,
+}
+
+/// Why nothing is read: a fault of the text, or want of memory.
+#[derive(Debug, Drop)]
+pub enum FileEnd {
+    Refused(Refusal),
+    NoMemory,
+}
+
+impl From<AllocError> for FileEnd {
+    ghost use Rattle.alg_reader.specs.declared.reading.FileEnd.TheVariants.{NoMemory};
+
+    ghost from_gives = { λ _ e. e ≡ NoMemory };
+
+    fn from(_error: AllocError) -> Self {
+        FileEnd::NoMemory
+    }
+}
+
+/// Reads the statement at a byte, or the end of the text. All places allow what `Plain` allows.
+///
+/// Refused with the first fault: code 2 or 3 where the text can't be cut, 4 at the first token with
+/// which no statement begins, 5 where the text ends inside the statement, 19 at a `(` where 200 are
+/// open, and 20 at a word that can't be read yet. Takes time and memory in the statement's length.
+pub fn read_statement(alloc: Global, text: &str, at: u32, _place: Place) -> Result<Raw, FileEnd>
+    requires size { length text.now ≤ 16777216 }
+    requires boundary { IsCharBoundary text.now at }
+    ensures { IsRead text.now at result }
+{
+    let cut = cut_statement(alloc, text, at)?;
+    let fault = cut.fault;
+    let end = Token {
+        kind: TokenKind::End,
+        start: fault.at,
+        stop: fault.at,
+    };
+    if cut.tokens.is_empty() && fault.code == ENDS {
+        return Ok(Raw {
+            kind: RawKind::End,
+            start: fault.at,
+            stop: fault.at,
+        });
+    }
+    let (start, stop) = ends_of(&cut.tokens, at);
+    let mut cursor = Cursor::new(&cut.tokens, end);
+    match cursor.statement(alloc) {
+        Ok(kind) => Ok(Raw { kind, start, stop }),
+        Err(Fault::NoMemory) => Err(FileEnd::NoMemory),
+        Err(Fault::Unexpected(token)) => Err(FileEnd::Refused(refusal(token, fault))),
+    }
+}
+
+/// The fault of a token at which the grammar is stuck: behind all tokens it is the one of the cutting.
+fn refusal(token: Token, fault: Refusal) -> Refusal
+    ensures { result ≡ refusal token fault }
+{
+    match token.kind {
+        TokenKind::End => fault,
+        _ => Refusal {
+            code: SYNTAX,
+            at: token.start,
+        },
+    }
+}
+
+/// Where the first of the tokens starts and the last one stops.
+fn ends_of(tokens: &[Token], at: u32) -> (u32, u32)
+    ensures start { (t : Token) (more : List Token) → tokens.now ≡ t ∷ more → result.0 ≡ t.start }
+    ensures stop { (before : List Token) (t : Token) → tokens.now ≡ before ++ t ∷ [] → result.1 ≡ t.stop }
+{
+    let start = match tokens.first() {
+        Some(first) => first.start,
+        None => at,
+    };
+    let stop = match tokens.last() {
+        Some(last) => last.stop,
+        None => at,
+    };
+    (start, stop)
+}

@@ -1,0 +1,218 @@
+//! Statements, each part by part.
+
+ghost use Rattle.std.specs.Prelude.{◌≡◌};
+ghost use Rattle.alg_reader.specs.Forms as rules;
+ghost use Rattle.alg_reader.specs.Forms.{rule};
+ghost use Rattle.alg_reader.specs.Reading.{Reads, ReadsNames, EndsAtNsatz, MethodEnds};
+ghost use Rattle.alg_reader.specs.Grammar.{body};
+ghost use Rattle.alg_reader.specs.Meaning.{kind_value, method_value, sides, sort_word, method_word, is_unequal};
+
+use crate::cursor::{Cursor, Fault};
+use crate::raw::{RawEquation, RawKind, RawMethod, RawTerm, Span};
+use crate::terms::span_of;
+use alg_terms::{Kind, Seq};
+use alg_tokens::{Sign, Token, TokenKind, Word};
+use std::alloc::Global;
+
+impl Cursor<'_> {
+    /// A statement to its `.`.
+    pub fn statement(&mut self, alloc: Global) -> Result<RawKind, Fault>
+        requires { EndsAtNsatz self.old }
+        ensures { Reads (rule rules.Statement) kind_value self.old result self.new }
+    {
+        let kind = self.body(alloc)?;
+        let _dot = self.expect(TokenKind::Sign(Sign::Dot))?;
+        Ok(kind)
+    }
+
+    /// What a statement says, by its first word.
+    fn body(&mut self, alloc: Global) -> Result<RawKind, Fault>
+        requires { EndsAtNsatz self.old }
+        ensures { Reads body kind_value self.old result self.new }
+    {
+        if self.sees(TokenKind::Word(Word::Ring)) {
+            return self.ring();
+        }
+        if self.sees_either(TokenKind::Word(Word::Domain), TokenKind::Word(Word::Field)) {
+            return self.sort();
+        }
+        if self.sees(TokenKind::Word(Word::Hom)) {
+            return self.hom();
+        }
+        if self.sees(TokenKind::Word(Word::Var)) {
+            return self.vars(alloc);
+        }
+        if self.sees(TokenKind::Word(Word::Hyp)) {
+            return self.hyp(alloc);
+        }
+        self.goal(alloc)
+    }
+
+    /// `ring R`
+    fn ring(&mut self) -> Result<RawKind, Fault>
+        ensures { Reads (rule rules.Ring) kind_value self.old result self.new }
+    {
+        let _ring = self.expect(TokenKind::Word(Word::Ring))?;
+        let name = self.expect(TokenKind::Name)?;
+        Ok(RawKind::Sort {
+            kind: Kind::Ring,
+            name: span_of(name),
+            char0: false,
+        })
+    }
+
+    /// `hom f : R -> S`
+    fn hom(&mut self) -> Result<RawKind, Fault>
+        ensures { Reads (rule rules.Hom) kind_value self.old result self.new }
+    {
+        let _hom = self.expect(TokenKind::Word(Word::Hom))?;
+        let name = self.expect(TokenKind::Name)?;
+        let _colon = self.expect(TokenKind::Sign(Sign::Colon))?;
+        let from = self.expect(TokenKind::Name)?;
+        let _arrow = self.expect(TokenKind::Sign(Sign::Arrow))?;
+        let to = self.expect(TokenKind::Name)?;
+        Ok(RawKind::Hom {
+            name: span_of(name),
+            from: span_of(from),
+            to: span_of(to),
+        })
+    }
+
+    /// `domain D`, or `field F char 0`
+    fn sort(&mut self) -> Result<RawKind, Fault>
+        ensures { Reads (rule rules.Sort) kind_value self.old result self.new }
+    {
+        let word = self.expect_either(TokenKind::Word(Word::Domain), TokenKind::Word(Word::Field))?;
+        let name = self.expect(TokenKind::Name)?;
+        let kind = sort_word(word.kind);
+        let name = span_of(name);
+        if !self.sees(TokenKind::Word(Word::Char)) {
+            return Ok(RawKind::Sort {
+                kind,
+                name,
+                char0: false,
+            });
+        }
+        let _char = self.take();
+        let _zero = self.expect(TokenKind::Number(0))?;
+        Ok(RawKind::Sort {
+            kind,
+            name,
+            char0: true,
+        })
+    }
+
+    /// `var x y : R`
+    fn vars(&mut self, alloc: Global) -> Result<RawKind, Fault>
+        ensures { Reads (rule rules.Vars) kind_value self.old result self.new }
+    {
+        let _var = self.expect(TokenKind::Word(Word::Var))?;
+        let first = self.expect(TokenKind::Name)?;
+        let names = self.names(alloc, span_of(first))?;
+        let _colon = self.expect(TokenKind::Sign(Sign::Colon))?;
+        let sort = self.expect(TokenKind::Name)?;
+        Ok(RawKind::Vars {
+            names,
+            sort: span_of(sort),
+        })
+    }
+
+    /// A first name and those that follow it.
+    fn names(&mut self, alloc: Global, first: Span) -> Result<Seq<Span>, Fault>
+        ensures { ReadsNames first self.old result self.new }
+    {
+        let mut names = Vec::new(alloc);
+        names.push(first)?;
+        'names: while self.sees(TokenKind::Name) {
+            let name = self.take();
+            names.push(span_of(name))?;
+        }
+        Ok(Seq::from_vec(names))
+    }
+
+    /// `hyp H : t = u`, or with `<>`
+    fn hyp(&mut self, alloc: Global) -> Result<RawKind, Fault>
+        ensures { Reads (rule rules.Hyp) kind_value self.old result self.new }
+    {
+        let _hyp = self.expect(TokenKind::Word(Word::Hyp))?;
+        let name = self.expect(TokenKind::Name)?;
+        let _colon = self.expect(TokenKind::Sign(Sign::Colon))?;
+        let left = self.sum(alloc)?;
+        let relation = self.expect_either(
+            TokenKind::Sign(Sign::Equal),
+            TokenKind::Sign(Sign::NotEqual),
+        )?;
+        let right = self.sum(alloc)?;
+        Ok(RawKind::Hyp {
+            name: span_of(name),
+            equation: sides(left, relation, right),
+        })
+    }
+
+    /// `goal t = u by method`
+    fn goal(&mut self, alloc: Global) -> Result<RawKind, Fault>
+        requires { EndsAtNsatz self.old }
+        ensures { Reads (rule rules.Goal) kind_value self.old result self.new }
+    {
+        let _goal = self.expect(TokenKind::Word(Word::Goal))?;
+        let left = self.sum(alloc)?;
+        let equal = self.expect(TokenKind::Sign(Sign::Equal))?;
+        let right = self.sum(alloc)?;
+        let _by = self.expect(TokenKind::Word(Word::By))?;
+        let (method, method_at) = self.method()?;
+        Ok(RawKind::Goal {
+            equation: sides(left, equal, right),
+            method,
+            method_at,
+        })
+    }
+
+    /// The method of a goal and its place. Behind `nsatz` nothing comes yet but the end.
+    fn method(&mut self) -> Result<(RawMethod, u32), Fault>
+        requires { MethodEnds self.old }
+        ensures { Reads (rule rules.Method) method_value self.old result self.new }
+    {
+        if self.sees(TokenKind::Word(Word::Nsatz)) {
+            let word = self.take();
+            return Ok((RawMethod::Nsatz, word.start));
+        }
+        let word = self.expect_either(TokenKind::Word(Word::Ring), TokenKind::Word(Word::Field))?;
+        Ok((method_word(word.kind), word.start))
+    }
+}
+
+fn sort_word(kind: TokenKind) -> Kind
+    ensures { result ≡ sort_word kind }
+{
+    match kind {
+        TokenKind::Word(Word::Ring) => Kind::Ring,
+        TokenKind::Word(Word::Domain) => Kind::Domain,
+        _ => Kind::Field,
+    }
+}
+
+fn method_word(kind: TokenKind) -> RawMethod
+    ensures { result ≡ method_word kind }
+{
+    match kind {
+        TokenKind::Word(Word::Ring) => RawMethod::Ring,
+        _ => RawMethod::Field,
+    }
+}
+
+fn is_unequal(kind: TokenKind) -> bool
+    ensures { result ≡ is_unequal kind }
+{
+    matches!(kind, TokenKind::Sign(Sign::NotEqual))
+}
+
+fn sides(left: RawTerm, relation: Token, right: RawTerm) -> RawEquation
+    ensures { result ≡ sides left relation right }
+{
+    RawEquation {
+        left,
+        relation: relation.start,
+        nonzero: is_unequal(relation.kind),
+        right,
+    }
+}
