@@ -1,0 +1,4 @@
+pub mod Insertions
+pub mod Leaves
+pub mod Once
+pub mod Uses
