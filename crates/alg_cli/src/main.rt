@@ -1,0 +1,38 @@
+//! The program `alg`: reads a file of rings, variables and goals, answers each goal, and writes the
+//! file back with its answers.
+#![tactic(auto)]
+
+mod deciding;
+mod parser;
+mod printing;
+mod reading;
+pub mod status;
+mod terms;
+#[cfg(test)]
+mod tests;
+pub mod top;
+
+use alg_outside::{StdSink, StdSource};
+use alg_universe::Ints;
+use std::process::ExitCode;
+use std::{env, io};
+
+/// The words after the program's name: none where one of them is no text.
+fn words_of(rt: &HostRuntime) -> io::Result<Vec<String>> {
+    let mut words = Vec::new(rt.alloc());
+    for word in env::args(rt)?.skip(1) {
+        words.push(word)?;
+    }
+    Ok(words)
+}
+
+fn main(rt: HostRuntime) -> ExitCode {
+    let words = match words_of(&rt) {
+        Ok(words) => words,
+        Err(_) => return ExitCode::from(status::Status::NoMemory.code()),
+    };
+    let mut source = StdSource::new(rt.reader());
+    let mut sink = StdSink::new(io::writer(&rt));
+    let status = top::run::<Ints, _, _>(rt.alloc(), words.as_slice(), &mut source, &mut sink);
+    ExitCode::from(status.code())
+}

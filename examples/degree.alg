@@ -1,0 +1,3 @@
+ring R.
+var x : R.
+goal x^1000*x = 0 by ring.

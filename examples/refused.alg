@@ -1,0 +1,3 @@
+ring R.
+var x : R.
+goal x/x = 1 by ring.
