@@ -48,12 +48,23 @@ pub struct RawEquation {
     pub right: RawTerm,
 }
 
-/// The method of a goal.
-#[derive(Clone, Copy, PartialEq, Eq, Debug)]
+/// A use of a hypothesis under morphisms, the outermost first.
+#[derive(Debug, Drop)]
+pub struct RawUse {
+    pub path: Seq<Span>,
+    pub hyp: Span,
+}
+
+/// The method of a goal. An option of nsatz that is not written is None.
+#[derive(Debug, Drop)]
 pub enum RawMethod {
     Ring,
     Field,
-    Nsatz,
+    Nsatz {
+        uses: Seq<RawUse>,
+        power: Option<RawNumber>,
+        limit: Option<RawNumber>,
+    },
 }
 
 /// What a statement says, or that the text ends.

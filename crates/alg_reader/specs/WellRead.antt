@@ -1,0 +1,86 @@
+-- What holds of every statement that was read from a text.
+use Rattle.std.specs.Prelude.{◌≡◌, ◌≢◌, ◌≤◌, ◌<◌, ◌-◌, ◌+◌, ℕ, Bool, true, false, List, [], ◌∷◌, length, take, drop, All, Option, None, Some, IfSome, pos, ◌≤ℤ◌}
+use Rattle.std.specs.Str.{IsCharBoundary}
+use Rattle.alg_terms.specs.declared.limits.TheConstants.{MAX_LITERAL, MAX_DEPTH}
+use Rattle.alg_terms.specs.Kinds.{IsDomain}
+use Rattle.alg_terms.specs.Names.{IsName}
+use Rattle.alg_reader.specs.declared.raw.RawTerm.{RawTerm}
+use Rattle.alg_reader.specs.declared.raw.RawEquation.{RawEquation}
+use Rattle.alg_reader.specs.declared.raw.RawNumber.{RawNumber}
+use Rattle.alg_reader.specs.declared.raw.RawUse.{RawUse}
+use Rattle.alg_reader.specs.declared.raw.RawMethod.{RawMethod}
+use Rattle.alg_reader.specs.declared.raw.RawMethod.TheVariants as methods
+use Rattle.alg_reader.specs.declared.raw.RawKind.{RawKind}
+use Rattle.alg_reader.specs.declared.raw.RawKind.TheVariants as raws
+use Rattle.alg_reader.specs.declared.raw.Span.{Span}
+use Rattle.alg_reader.specs.declared.reading.Raw.{Raw}
+use Rattle.alg_reader.specs.RawTerms.{depth_of, names_in, literals_in, exponents_in}
+
+-- the bytes of a span
+abbrev pub bytes_at : List ℕ → Span → List ℕ
+bytes_at text span = take (span.stop - span.start) (drop span.start text)
+
+-- the span is one of a name
+pub record IsNameAt (text : List ℕ) (span : Span) : Type 0 where
+  pub starts : IsCharBoundary text span.start
+  pub stops : IsCharBoundary text span.stop
+  pub ordered : span.start ≤ span.stop
+  pub name : IsName (bytes_at text span)
+
+-- a number is from 0 to the greatest literal
+pub record IsNumeral (n : RawNumber) : Type 0 where
+  pub low : pos 0 ≤ℤ n.value
+  pub high : n.value ≤ℤ MAX_LITERAL
+
+-- a term that was read: its names are names, its numbers in range, and no node is too deep
+pub record IsWellTerm (text : List ℕ) (t : RawTerm) : Type 0 where
+  pub names : All (IsNameAt text) (names_in t)
+  pub literals : All (λ n. (pos 0 ≤ℤ n) × (n ≤ℤ MAX_LITERAL)) (literals_in t)
+  pub exponents : All IsNumeral (exponents_in t)
+  pub depth : depth_of t ≤ MAX_DEPTH
+
+pub record IsWellEquation (text : List ℕ) (e : RawEquation) : Type 0 where
+  pub left : IsWellTerm text e.left
+  pub right : IsWellTerm text e.right
+
+-- a use that was read: its names are names
+pub record IsWellUse (text : List ℕ) (used : RawUse) : Type 0 where
+  pub path : All (IsNameAt text) used.path
+  pub hyp : IsNameAt text used.hyp
+
+-- a number that may be left out
+abbrev pub IsOption : Option RawNumber → Type 0
+IsOption number = IfSome number IsNumeral
+
+-- a method that was read
+abbrev pub IsWellMethod : List ℕ → RawMethod → Type 0
+IsWellMethod text methods.Ring = Unit {0}
+IsWellMethod text methods.Field = Unit {0}
+IsWellMethod text (methods.Nsatz uses power limit) = All (IsWellUse text) uses × IsOption power × IsOption limit
+
+-- what was read
+abbrev pub IsWellKind : List ℕ → RawKind → Type 0
+IsWellKind text raws.End = Unit {0}
+IsWellKind text (raws.Sort kind name char0) = IsNameAt text name × (char0 ≡ true → IsDomain kind)
+IsWellKind text (raws.Hom name from to) = IsNameAt text name × IsNameAt text from × IsNameAt text to
+IsWellKind text (raws.Vars names sort) = (1 ≤ length names) × All (IsNameAt text) names × IsNameAt text sort
+IsWellKind text (raws.Hyp name e) = IsNameAt text name × IsWellEquation text e
+IsWellKind text (raws.Goal e method method_at) = IsWellEquation text e × (e.nonzero ≡ false) × IsWellMethod text method
+
+-- how many members of a list, or uses, a statement has
+abbrev pub members_in : RawKind → ℕ
+members_in (raws.Vars names sort) = length names
+members_in (raws.Goal e (methods.Nsatz uses power limit) method_at) = 1 + length uses
+members_in _ = 1
+
+-- a statement that was read at a place of a text
+pub record IsWellRead (text : List ℕ) (at : ℕ) (raw : Raw) : Type 0 where
+  pub kind : IsWellKind text raw.kind
+  -- it stands from its start to its stop, where the text may be cut
+  pub starts : at ≤ raw.start
+  pub stops : IsCharBoundary text raw.stop
+  -- each member, and each use, takes a byte at least
+  pub long : raw.kind ≢ raws.End → raw.start + members_in raw.kind ≤ raw.stop
+  -- no goal is by field or nsatz yet
+  pub by_ring : (e : RawEquation) (method : RawMethod) (place : ℕ) → raw.kind ≡ raws.Goal e method place →
+      method ≡ methods.Ring
