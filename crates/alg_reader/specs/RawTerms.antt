@@ -1,16 +1,34 @@
 -- Terms as they were read, node by node. `Node X` is one node, with something in the place of each part.
 use Rattle.std.specs.Prelude.{ℕ, ◌+◌, max, List, [], ◌∷◌, ◌++◌, ℤ}
-use Rattle.alg_reader.specs.declared.raw.RawTerm.{RawTerm, fold-RawTerm}
-use Rattle.alg_reader.specs.declared.raw.RawNode.TheOpen.{RawNode-F, RawTerm-F}
+use Rattle.alg_reader.specs.declared.raw.RawTerm.{RawTerm}
+use Rattle.alg_reader.specs.declared.raw.RawNode.{RawNode, more_of-RawTerm, Var, Int, Neg', Add', Sub', Mul', Div', Pow', Hom'}
+use Rattle.alg_reader.specs.declared.raw.RawNode.TheOpen.{RawNode-F}
 use Rattle.alg_reader.specs.declared.raw.RawNumber.{RawNumber}
 use Rattle.alg_reader.specs.declared.raw.Span.{Span}
 
 abbrev pub Node : Type 0 → Type 0
 Node X = RawNode-F (ℕ → X) X
 
--- what a term comes to, where `node` says what one node comes to by its head and by what its parts come to
-unfoldable pub fold_raw : {X : Type 0} → (ℕ → Node X → X) → RawTerm → X
-fold_raw {X} node = fold-RawTerm (ℕ → X) X (λ n head. node head n) (λ t. t.node t.head)
+-- what the node under a head comes to, where `node` says what one node comes to by its head and by what its parts
+-- come to
+unfoldable pub fold_under : {X : Type 0} → (ℕ → Node X → X) → ℕ → RawNode → X
+fold_under node head (Var name) = node head (RawNode-F.Var name)
+fold_under node head (Int n) = node head (RawNode-F.Int n)
+fold_under node head (Neg' _ (more_of-RawTerm h t _)) = node head (RawNode-F.Neg (fold_under node h t))
+fold_under node head (Add' _ (more_of-RawTerm h t _) _ (more_of-RawTerm k u _)) =
+    node head (RawNode-F.Add (fold_under node h t) (fold_under node k u))
+fold_under node head (Sub' _ (more_of-RawTerm h t _) _ (more_of-RawTerm k u _)) =
+    node head (RawNode-F.Sub (fold_under node h t) (fold_under node k u))
+fold_under node head (Mul' _ (more_of-RawTerm h t _) _ (more_of-RawTerm k u _)) =
+    node head (RawNode-F.Mul (fold_under node h t) (fold_under node k u))
+fold_under node head (Div' _ (more_of-RawTerm h t _) _ (more_of-RawTerm k u _)) =
+    node head (RawNode-F.Div (fold_under node h t) (fold_under node k u))
+fold_under node head (Pow' _ (more_of-RawTerm h t _) n) = node head (RawNode-F.Pow (fold_under node h t) n)
+fold_under node head (Hom' name _ (more_of-RawTerm h t _)) = node head (RawNode-F.Hom name (fold_under node h t))
+
+-- what a term comes to
+abbrev pub fold_raw : {X : Type 0} → (ℕ → Node X → X) → RawTerm → X
+fold_raw node t = fold_under node t.head t.node
 
 -- one node's depth, by the depths of its parts
 abbrev pub node_depth : ℕ → Node ℕ → ℕ
