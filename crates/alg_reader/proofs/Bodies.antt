@@ -5,14 +5,15 @@ use Rattle.alg_tokens.specs.declared.token.Token.{Token}
 use Rattle.alg_tokens.specs.declared.token.TokenKind.TheVariants as kinds
 use Rattle.alg_tokens.specs.declared.token.Word.TheVariants as words
 use Rattle.alg_reader.specs.declared.cursor.Fault.{Fault}
-use Rattle.alg_reader.specs.declared.raw.RawKind.{RawKind}
+use Rattle.alg_reader.specs.declared.parts.Said.{Said}
 use Rattle.alg_reader.specs.Kinds.{code}
 use Rattle.alg_reader.specs.Forms.{Ring, Sort, Hom, Vars, Hyp, Goal, alt, rule}
 use Rattle.alg_reader.specs.Grammar.{word, body}
 use Rattle.alg_reader.specs.Meaning.{kind_value}
-use Rattle.alg_reader.specs.Reading.{begins, rule_begins, Starts, Lacks, Reads, StartsEither, LacksBoth}
+use Rattle.alg_reader.specs.Parts.{said}
+use Rattle.alg_reader.specs.Reading.{begins, rule_begins, Starts, Lacks, ReadsStatement, StartsEither, LacksBoth}
 use Rattle.alg_reader.proofs.Laws.{Disjoint}
-use Rattle.alg_reader.proofs.Choices.{left_read, right_read}
+use Rattle.alg_reader.proofs.Choices.{left_kept, right_kept}
 
 ring_apart : Disjoint (begins (rule Ring)) (begins (alt (rule Sort) (alt (rule Hom) (alt (rule Vars) (alt
     (rule Hyp) (rule Goal))))))
@@ -94,50 +95,50 @@ lacks_sort ts (h, k) =
     let first : (26 == code h.0) ≡ false = h.3 in
     (h.0, h.1, h.2, grind (arith, nat_tests))
 
-pub body_ring : (ts new : List Token) (r : Result RawKind Fault) → Starts (rule Ring) ts
-    → Reads (rule Ring) kind_value ts r new → Reads body kind_value ts r new
-body_ring ts new r s h = left_read (rule Ring) (alt (rule Sort) (alt (rule Hom) (alt (rule Vars) (alt (rule Hyp)
-    (rule Goal))))) kind_value ts new r ring_apart refl refl s h
+pub body_ring : (ts new : List Token) (r : Result Said Fault) → Starts (rule Ring) ts
+    → ReadsStatement (rule Ring) ts r new → ReadsStatement body ts r new
+body_ring ts new r s h = left_kept (rule Ring) (alt (rule Sort) (alt (rule Hom) (alt (rule Vars) (alt (rule Hyp)
+    (rule Goal))))) said kind_value ts new r ring_apart refl refl s h
 
-pub body_sort : (ts new : List Token) (r : Result RawKind Fault) → Lacks (rule Ring) ts → Starts (rule Sort) ts
-    → Reads (rule Sort) kind_value ts r new → Reads body kind_value ts r new
-body_sort ts new r l0 s h = right_read (rule Ring) (alt (rule Sort) (alt (rule Hom) (alt (rule Vars) (alt
-    (rule Hyp) (rule Goal))))) kind_value ts new r ring_apart refl refl l0 (left_read (rule Sort) (alt (rule Hom)
-    (alt (rule Vars) (alt (rule Hyp) (rule Goal)))) kind_value ts new r sort_apart refl refl s h)
+pub body_sort : (ts new : List Token) (r : Result Said Fault) → Lacks (rule Ring) ts → Starts (rule Sort) ts
+    → ReadsStatement (rule Sort) ts r new → ReadsStatement body ts r new
+body_sort ts new r l0 s h = right_kept (rule Ring) (alt (rule Sort) (alt (rule Hom) (alt (rule Vars) (alt
+    (rule Hyp) (rule Goal))))) said kind_value ts new r ring_apart refl refl l0 (left_kept (rule Sort) (alt (rule Hom)
+    (alt (rule Vars) (alt (rule Hyp) (rule Goal)))) said kind_value ts new r sort_apart refl refl s h)
 
-pub body_hom : (ts new : List Token) (r : Result RawKind Fault) → Lacks (rule Ring) ts → Lacks (rule Sort) ts
-    → Starts (rule Hom) ts → Reads (rule Hom) kind_value ts r new → Reads body kind_value ts r new
-body_hom ts new r l0 l1 s h = right_read (rule Ring) (alt (rule Sort) (alt (rule Hom) (alt (rule Vars) (alt
-    (rule Hyp) (rule Goal))))) kind_value ts new r ring_apart refl refl l0 (right_read (rule Sort) (alt (rule Hom)
-    (alt (rule Vars) (alt (rule Hyp) (rule Goal)))) kind_value ts new r sort_apart refl refl l1 (left_read
-    (rule Hom) (alt (rule Vars) (alt (rule Hyp) (rule Goal))) kind_value ts new r hom_apart refl refl s h))
+pub body_hom : (ts new : List Token) (r : Result Said Fault) → Lacks (rule Ring) ts → Lacks (rule Sort) ts
+    → Starts (rule Hom) ts → ReadsStatement (rule Hom) ts r new → ReadsStatement body ts r new
+body_hom ts new r l0 l1 s h = right_kept (rule Ring) (alt (rule Sort) (alt (rule Hom) (alt (rule Vars) (alt
+    (rule Hyp) (rule Goal))))) said kind_value ts new r ring_apart refl refl l0 (right_kept (rule Sort) (alt (rule Hom)
+    (alt (rule Vars) (alt (rule Hyp) (rule Goal)))) said kind_value ts new r sort_apart refl refl l1 (left_kept
+    (rule Hom) (alt (rule Vars) (alt (rule Hyp) (rule Goal))) said kind_value ts new r hom_apart refl refl s h))
 
-pub body_vars : (ts new : List Token) (r : Result RawKind Fault) → Lacks (rule Ring) ts → Lacks (rule Sort) ts
-    → Lacks (rule Hom) ts → Starts (rule Vars) ts → Reads (rule Vars) kind_value ts r new
-    → Reads body kind_value ts r new
-body_vars ts new r l0 l1 l2 s h = right_read (rule Ring) (alt (rule Sort) (alt (rule Hom) (alt (rule Vars) (alt
-    (rule Hyp) (rule Goal))))) kind_value ts new r ring_apart refl refl l0 (right_read (rule Sort) (alt (rule Hom)
-    (alt (rule Vars) (alt (rule Hyp) (rule Goal)))) kind_value ts new r sort_apart refl refl l1 (right_read
-    (rule Hom) (alt (rule Vars) (alt (rule Hyp) (rule Goal))) kind_value ts new r hom_apart refl refl l2
-    (left_read (rule Vars) (alt (rule Hyp) (rule Goal)) kind_value ts new r vars_apart refl refl s h)))
+pub body_vars : (ts new : List Token) (r : Result Said Fault) → Lacks (rule Ring) ts → Lacks (rule Sort) ts
+    → Lacks (rule Hom) ts → Starts (rule Vars) ts → ReadsStatement (rule Vars) ts r new
+    → ReadsStatement body ts r new
+body_vars ts new r l0 l1 l2 s h = right_kept (rule Ring) (alt (rule Sort) (alt (rule Hom) (alt (rule Vars) (alt
+    (rule Hyp) (rule Goal))))) said kind_value ts new r ring_apart refl refl l0 (right_kept (rule Sort) (alt (rule Hom)
+    (alt (rule Vars) (alt (rule Hyp) (rule Goal)))) said kind_value ts new r sort_apart refl refl l1 (right_kept
+    (rule Hom) (alt (rule Vars) (alt (rule Hyp) (rule Goal))) said kind_value ts new r hom_apart refl refl l2
+    (left_kept (rule Vars) (alt (rule Hyp) (rule Goal)) said kind_value ts new r vars_apart refl refl s h)))
 
-pub body_hyp : (ts new : List Token) (r : Result RawKind Fault) → Lacks (rule Ring) ts → Lacks (rule Sort) ts
-    → Lacks (rule Hom) ts → Lacks (rule Vars) ts → Starts (rule Hyp) ts → Reads (rule Hyp) kind_value ts r new
-    → Reads body kind_value ts r new
-body_hyp ts new r l0 l1 l2 l3 s h = right_read (rule Ring) (alt (rule Sort) (alt (rule Hom) (alt (rule Vars) (alt
-    (rule Hyp) (rule Goal))))) kind_value ts new r ring_apart refl refl l0 (right_read (rule Sort) (alt (rule Hom)
-    (alt (rule Vars) (alt (rule Hyp) (rule Goal)))) kind_value ts new r sort_apart refl refl l1 (right_read
-    (rule Hom) (alt (rule Vars) (alt (rule Hyp) (rule Goal))) kind_value ts new r hom_apart refl refl l2
-    (right_read (rule Vars) (alt (rule Hyp) (rule Goal)) kind_value ts new r vars_apart refl refl l3 (left_read
-    (rule Hyp) (rule Goal) kind_value ts new r hyp_apart refl refl s h))))
+pub body_hyp : (ts new : List Token) (r : Result Said Fault) → Lacks (rule Ring) ts → Lacks (rule Sort) ts
+    → Lacks (rule Hom) ts → Lacks (rule Vars) ts → Starts (rule Hyp) ts → ReadsStatement (rule Hyp) ts r new
+    → ReadsStatement body ts r new
+body_hyp ts new r l0 l1 l2 l3 s h = right_kept (rule Ring) (alt (rule Sort) (alt (rule Hom) (alt (rule Vars) (alt
+    (rule Hyp) (rule Goal))))) said kind_value ts new r ring_apart refl refl l0 (right_kept (rule Sort) (alt (rule Hom)
+    (alt (rule Vars) (alt (rule Hyp) (rule Goal)))) said kind_value ts new r sort_apart refl refl l1 (right_kept
+    (rule Hom) (alt (rule Vars) (alt (rule Hyp) (rule Goal))) said kind_value ts new r hom_apart refl refl l2
+    (right_kept (rule Vars) (alt (rule Hyp) (rule Goal)) said kind_value ts new r vars_apart refl refl l3 (left_kept
+    (rule Hyp) (rule Goal) said kind_value ts new r hyp_apart refl refl s h))))
 
-pub body_goal : (ts new : List Token) (r : Result RawKind Fault) → Lacks (rule Ring) ts → Lacks (rule Sort) ts
-    → Lacks (rule Hom) ts → Lacks (rule Vars) ts → Lacks (rule Hyp) ts → Reads (rule Goal) kind_value ts r new
-    → Reads body kind_value ts r new
-body_goal ts new r l0 l1 l2 l3 l4 h = right_read (rule Ring) (alt (rule Sort) (alt (rule Hom) (alt (rule Vars)
-    (alt (rule Hyp) (rule Goal))))) kind_value ts new r ring_apart refl refl l0 (right_read (rule Sort) (alt
-    (rule Hom) (alt (rule Vars) (alt (rule Hyp) (rule Goal)))) kind_value ts new r sort_apart refl refl l1
-    (right_read (rule Hom) (alt (rule Vars) (alt (rule Hyp)
-    (rule Goal))) kind_value ts new r hom_apart refl refl l2 (right_read (rule Vars) (alt (rule Hyp)
-    (rule Goal)) kind_value ts new r vars_apart refl refl l3 (right_read (rule Hyp)
-    (rule Goal) kind_value ts new r hyp_apart refl refl l4 (h)))))
+pub body_goal : (ts new : List Token) (r : Result Said Fault) → Lacks (rule Ring) ts → Lacks (rule Sort) ts
+    → Lacks (rule Hom) ts → Lacks (rule Vars) ts → Lacks (rule Hyp) ts → ReadsStatement (rule Goal) ts r new
+    → ReadsStatement body ts r new
+body_goal ts new r l0 l1 l2 l3 l4 h = right_kept (rule Ring) (alt (rule Sort) (alt (rule Hom) (alt (rule Vars)
+    (alt (rule Hyp) (rule Goal))))) said kind_value ts new r ring_apart refl refl l0 (right_kept (rule Sort) (alt
+    (rule Hom) (alt (rule Vars) (alt (rule Hyp) (rule Goal)))) said kind_value ts new r sort_apart refl refl l1
+    (right_kept (rule Hom) (alt (rule Vars) (alt (rule Hyp)
+    (rule Goal))) said kind_value ts new r hom_apart refl refl l2 (right_kept (rule Vars) (alt (rule Hyp)
+    (rule Goal)) said kind_value ts new r vars_apart refl refl l3 (right_kept (rule Hyp)
+    (rule Goal) said kind_value ts new r hyp_apart refl refl l4 (h)))))

@@ -6,9 +6,11 @@ use Rattle.alg_reader.specs.declared.cursor.Fault.{Fault}
 use Rattle.alg_reader.specs.declared.cursor.Fault.TheVariants.{NoMemory, Unexpected}
 use Rattle.alg_reader.specs.Forms.{Rule, Form, seq, alt, opt, many, rule, Sum, Tree, pair, left, right, some, end, more, node, spelled}
 use Rattle.alg_reader.specs.Grammar.{grammar, Fits, IsBegun, inside}
-use Rattle.alg_reader.specs.Reading.{nullable, begins, goes_on, Starts, Lacks, Takes, Stops, Fails, Reads, ReadsInside}
-use Rattle.alg_reader.specs.declared.raw.RawTerm.{RawTerm}
-use Rattle.alg_reader.specs.Meaning.{Value}
+use Rattle.alg_reader.specs.Reading.{nullable, begins, goes_on, Starts, Lacks, Takes, Stops, Fails, Reads, ReadsKept, ReadsTerm, ReadsStatement, ReadsInside}
+use Rattle.alg_reader.specs.declared.parts.Part.{Part}
+use Rattle.alg_reader.specs.declared.parts.Said.{Said}
+use Rattle.alg_reader.specs.Meaning.{Value, term, kind_value}
+use Rattle.alg_reader.specs.Parts.{held, said}
 use Rattle.alg_reader.proofs.Laws.{Disjoint, stops_first, stops_second, stops_left, stops_right, stops_some, stops_turn, stops_later, stops_rule}
 
 -- ---- the front of a derivation
@@ -117,7 +119,19 @@ pub passed : {X : Type 0} (f : Form) (view : X → Value) (ts new : List Token) 
     → IsErrAnd r (λ x. x ≡ e) → Fails f ts e → Reads f view ts r new
 passed f view ts new r e is h = let p = err_from_is_err_and r is in rw (p.1, p.2) h
 
-pub passed_inside : (ts new : List Token) (r : Result RawTerm Fault) (e : Fault) → IsErrAnd r (λ x. x ≡ e)
+pub passed_kept : {X Y : Type 0} (f : Form) (keep : Y → X) (view : Y → Value) (ts new : List Token)
+    (r : Result X Fault) (e : Fault) → IsErrAnd r (λ x. x ≡ e) → Fails f ts e → ReadsKept f keep view ts r new
+passed_kept f keep view ts new r e is h = let p = err_from_is_err_and r is in rw (p.1, p.2) h
+
+pub passed_term : (q : Rule) (ts new : List Token) (r : Result Part Fault) (e : Fault) → IsErrAnd r (λ x. x ≡ e)
+    → Fails (rule q) ts e → ReadsTerm q ts r new
+passed_term q = passed_kept (rule q) held term
+
+pub passed_statement : (f : Form) (ts new : List Token) (r : Result Said Fault) (e : Fault)
+    → IsErrAnd r (λ x. x ≡ e) → Fails f ts e → ReadsStatement f ts r new
+passed_statement f = passed_kept f said kind_value
+
+pub passed_inside : (ts new : List Token) (r : Result Part Fault) (e : Fault) → IsErrAnd r (λ x. x ≡ e)
     → Fails (inside (rule Sum)) ts e → ReadsInside ts r new
 passed_inside ts new r e is h = let p = err_from_is_err_and r is in rw (p.1, p.2) h
 

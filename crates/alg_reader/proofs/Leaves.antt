@@ -5,11 +5,12 @@ use Rattle.alg_tokens.specs.declared.token.TokenKind.{TokenKind}
 use Rattle.alg_tokens.specs.declared.token.TokenKind.TheVariants as kinds
 use Rattle.alg_tokens.specs.declared.token.Sign.TheVariants as signs
 use Rattle.alg_reader.specs.declared.raw.RawTerm.{RawTerm}
+use Rattle.alg_reader.specs.declared.parts.Part.{Part}
 use Rattle.alg_reader.specs.declared.cursor.Fault.{Fault}
 use Rattle.alg_reader.specs.Kinds.{variant, code}
 use Rattle.alg_reader.specs.Forms.{Sum, Product, Unary, Power, Leaf, Form, a, seq, alt, opt, rule, Tree, token, pair, left, right, none, end, node, spelled}
 use Rattle.alg_reader.specs.Grammar.{grammar, Fits, number, zero, inside as parens}
-use Rattle.alg_reader.specs.Reading.{nullable, begins, goes_on, rule_goes_on, rule_begins, Starts, Lacks, Takes, Stops, Fails, TakesInside, ReadsInside, Reads}
+use Rattle.alg_reader.specs.Reading.{nullable, begins, goes_on, rule_goes_on, rule_begins, Starts, Lacks, Takes, Stops, Fails, TakesInside, ReadsInside, ReadsTerm}
 use Rattle.alg_reader.specs.Meaning.{Value, one, two, nothing, term, value, act, literal, variable, image, opposite, power_of, leaf_one, leaf_two, named}
 use Rattle.alg_reader.proofs.Laws.{Disjoint, or_first, an, an-code, takes_token, stops_token, stops_right, takes_seq, takes_left, takes_right, takes_some, takes_none, takes_rule}
 use Rattle.alg_reader.proofs.Failing.{fails_first, fails_second, fails_left, fails_right, fails_some, fails_rule}
@@ -307,9 +308,9 @@ fails_group ts e l l' h =
     (fails_right (seq (a kinds.Name) (opt (parens (rule Sum)))) (parens (rule Sum)) name_apart refl refl ts e
     (lacks_seq (a kinds.Name) (opt (parens (rule Sum))) ts refl l') h))
 
-pub group_read : (ts new : List Token) (r : Result RawTerm Fault) → Lacks number ts → Lacks (a kinds.Name) ts
-    → ReadsInside ts r new → Reads (rule Leaf) term ts r new
-group_read ts new (Ok t) l l' h = takes_group ts new t h
+pub group_read : (ts new : List Token) (r : Result Part Fault) → Lacks number ts → Lacks (a kinds.Name) ts
+    → ReadsInside ts r new → ReadsTerm Leaf ts r new
+group_read ts new (Ok p) l l' h = (h.0, h.1, takes_group ts new h.0 h.2)
 group_read ts new (Err e) l l' h = fails_group ts e l l' h
 
 -- ---- a numeral, seen and taken

@@ -1,3 +1,6 @@
+pub mod Built
+pub mod Depths
+pub mod Held
 pub mod Laws
 pub mod Failing
 pub mod Turns
@@ -9,5 +12,6 @@ pub mod Trees
 pub mod Sequences
 pub mod Choices
 pub mod Bodies
+pub mod Options
 pub mod Places
 pub mod Outcomes

@@ -1,5 +1,6 @@
 -- From the tokens of a statement and what the grammar says of them to the statement of the text, or its first fault.
-use Rattle.std.proofs.Common.{◌≡◌, ◌≢◌, ℕ, Bool, true, false, ◌&&◌, ◌==◌, not, List, [], ◌∷◌, ◌++◌, ◌⊎◌, inl, inr, length, length-append, drop, refl, ap, sym, ◌∙◌, subst, arith, append_assoc, append-nil, Option, Some, None, is_none, Ok, Err, eq-eqb}
+use Rattle.std.proofs.Common.{◌≡◌, ◌≢◌, ℕ, Bool, true, false, ◌&&◌, ◌==◌, not, List, [], ◌∷◌, ◌++◌, ◌⊎◌, inl, inr, length, length-append, drop, refl, ap, sym, ◌∙◌, subst, arith, append_assoc, append-nil, Option, Some, None, is_none, Ok, Err, Result, IsErrAnd, eq-eqb}
+use Rattle.std.proofs.lemmas.Result.{err_from_is_err_and}
 use Rattle.alg_tokens.specs.declared.token.Token.{Token}
 use Rattle.alg_tokens.specs.declared.token.Refusal.{Refusal}
 use Rattle.alg_tokens.specs.declared.token.TokenKind.{TokenKind}
@@ -11,12 +12,17 @@ use Rattle.alg_reader.specs.Kinds.{variant, code}
 use Rattle.alg_reader.specs.Forms as rules
 use Rattle.alg_reader.specs.Forms.{Rule, Statement, Form, a, seq, alt, opt, many, rule, Tree, token, pair, left, right, none, some, end, more, node, spelled}
 use Rattle.alg_reader.specs.Grammar.{grammar, Fits, IsBegun, body}
-use Rattle.alg_reader.specs.Reading.{Takes, Stops, EndsAtNsatz, MethodEnds, rule_goes_on}
+use Rattle.alg_reader.specs.Reading.{Takes, Stops, rule_goes_on}
 use Rattle.alg_reader.specs.Tokens.{refusal, refusal_of, TokensTo, open_with, open_after, last_kind, bar, GoesPast, HasNoDot, Reaches, IsStatementCut}
 use Rattle.alg_reader.specs.declared.raw.RawKind.{RawKind}
 use Rattle.alg_reader.specs.Meaning.{kind_value}
-use Rattle.alg_reader.specs.declared.reading.FileEnd.TheVariants.{Refused}
-use Rattle.alg_reader.specs.Statements.{IsRead}
+use Rattle.alg_reader.specs.declared.raw.RawKind.TheVariants as raws
+use Rattle.alg_reader.specs.declared.reading.Raw.{Raw}
+use Rattle.alg_reader.specs.declared.reading.FileEnd.{FileEnd}
+use Rattle.alg_reader.specs.declared.reading.FileEnd.TheVariants.{Refused, NoMemory}
+use Rattle.alg_reader.specs.declared.parts.Said.{Said}
+use Rattle.alg_reader.specs.Parts.{said}
+use Rattle.alg_reader.specs.Statements.{Keeps, end_of, IsRead}
 use Rattle.alg_reader.proofs.Cutting.{tokens_more, past_more}
 use Rattle.alg_reader.proofs.Variants.{is_dot}
 use Rattle.alg_reader.proofs.Places.{split_end, split_token, tokens_split, past_split, dot_split, prefix_of, no_dot_append, statement_dot, head_or}
@@ -83,14 +89,21 @@ first_of : (before : List Token) (t : Token) → (first : Token) × (after : Lis
 first_of [] t = (t, [], refl)
 first_of (x ∷ before) t = (x, before ++ t ∷ [], refl)
 
+-- what is kept of a statement
+said_keeps : (start stop : ℕ) (s : Said) (kind : RawKind) → s ≡ said kind
+    → Keeps (record { kind = s.kind; start = start; stop = stop; too_deep = s.too_deep }) kind
+unfolding said
+said_keeps start stop s kind e = (ap (λ x. x.kind) e, ap (λ x. x.too_deep) e)
+
 -- all tokens to the dot are the statement
 whole_statement : (text : List ℕ) (at mid start stop : ℕ) (ts before new : List Token) (t e : Token)
-    (kind : RawKind) → ts ≡ before ++ t ∷ [] → Reaches text at before mid → IsNext text mid (Ok t)
+    (s : Said) (kind : RawKind) → s ≡ said kind → ts ≡ before ++ t ∷ [] → Reaches text at before mid → IsNext text mid (Ok t)
     → t.kind ≢ kinds.End → t.kind ≡ kinds.Sign signs.Dot → Takes (rule Statement) (ts ++ e ∷ []) new (kind_value kind)
     → ((u : Token) (us : List Token) → ts ≡ u ∷ us → start ≡ u.start) → ((us : List Token) (u : Token)
     → ts ≡ us ++ u ∷ [] → stop ≡ u.stop)
-    → IsRead text at (Ok (record { kind = kind; start = start; stop = stop }))
-whole_statement text at mid start stop ts before new t e kind same (to, past, clear) next lexeme dot p starts stops =
+    → IsRead text at (Ok (record { kind = s.kind; start = start; stop = stop; too_deep = s.too_deep }))
+unfolding IsRead
+whole_statement text at mid start stop ts before new t e s kind keeps same (to, past, clear) next lexeme dot p starts stops =
     let (front, d, spell, is, none_before) = statement_dot p.tree p.fits in
     let long : before ++ t ∷ (e ∷ []) ≡ front ++ d ∷ new =
     sym (append_assoc before (t ∷ []) (e ∷ [])) ∙ ap (λ us. us ++ e ∷ []) (sym same) ∙ p.cut
@@ -110,28 +123,28 @@ whole_statement text at mid start stop ts before new t e kind same (to, past, cl
       after,
       subst P (sym (stops before t same)) (subst Q split here),
       subst (GoesPast 0 None) split free,
-      (p.tree, p.fits, all ∙ shown, p.means),
       starts first after shown,
+      (kind, (p.tree, p.fits, all ∙ shown, p.means), said_keeps start stop s kind keeps),
     )
 
 pub read_ok : (text : List ℕ) (at start stop : ℕ) (ts new : List Token) (fault : Refusal) (e : Token)
-    (kind : RawKind) → e.kind ≡ kinds.End → IsStatementCut text at ts fault
+    (s : Said) (kind : RawKind) → s ≡ said kind → e.kind ≡ kinds.End → IsStatementCut text at ts fault
     → Takes (rule Statement) (ts ++ e ∷ []) new (kind_value kind)
     → ((u : Token) (us : List Token) → ts ≡ u ∷ us → start ≡ u.start) → ((us : List Token) (u : Token)
     → ts ≡ us ++ u ∷ [] → stop ≡ u.stop)
-    → IsRead text at (Ok (record { kind = kind; start = start; stop = stop }))
-read_ok text at start stop ts new fault e kind is (inl (
+    → IsRead text at (Ok (record { kind = s.kind; start = start; stop = stop; too_deep = s.too_deep }))
+read_ok text at start stop ts new fault e s kind keeps is (inl (
   mid,
   (_, _, clear),
   _,
 )) p starts stops = absurd (no_statement ts new e p.tree is clear p.fits p.cut)
-read_ok text at start stop ts new fault e kind is (inr (inl (
+read_ok text at start stop ts new fault e s kind keeps is (inr (inl (
   mid,
   (_, _, clear),
   _,
   _,
 ))) p starts stops = absurd (no_statement ts new e p.tree is clear p.fits p.cut)
-read_ok text at start stop ts new fault e kind is (inr (inr (
+read_ok text at start stop ts new fault e s kind keeps is (inr (inr (
   before,
   t,
   mid,
@@ -141,8 +154,8 @@ read_ok text at start stop ts new fault e kind is (inr (inr (
   lexeme,
   inl dot,
 ))) p starts stops =
-    whole_statement text at mid start stop ts before new t e kind same reaches next lexeme dot p starts stops
-read_ok text at start stop ts new fault e kind is (inr (inr (
+    whole_statement text at mid start stop ts before new t e s kind keeps same reaches next lexeme dot p starts stops
+read_ok text at start stop ts new fault e s kind keeps is (inr (inr (
   before,
   t,
   mid,
@@ -154,6 +167,30 @@ read_ok text at start stop ts new fault e kind is (inr (inr (
 ))) p starts stops =
     absurd (no_statement ts new e p.tree is (subst HasNoDot (sym same)
     (stopped_no_dot text at before t fault.code reaches.2 barred)) p.fits p.cut)
+
+pub no_memory : (text : List ℕ) (at : ℕ) → IsRead text at (Err NoMemory)
+unfolding IsRead
+no_memory text at = tt
+
+pub passed_no_memory : (text : List ℕ) (at : ℕ) (r : Result Raw FileEnd) → IsErrAnd r (λ e. e ≡ NoMemory)
+    → IsRead text at r
+passed_no_memory text at r is = let p = err_from_is_err_and r is in rw (p.1, p.2) (no_memory text at)
+
+-- no token stands before the end
+pub read_end : (text : List ℕ) (at : ℕ) (ts : List Token) (fault : Refusal) → ts ≡ [] → IsStatementCut text at ts fault
+    → fault.code ≡ 5
+    → IsRead text at (Ok (record { kind = raws.End; start = fault.at; stop = fault.at; too_deep = None }))
+unfolding IsRead
+read_end text at ts fault empty (inl (stop, _, (_, inl (two, _)))) five = absurd (omega arith)
+read_end text at ts fault empty (inl (stop, _, (_, inr (three, _)))) five = absurd (omega arith)
+read_end text at ts fault empty (inr (inl (stop, (to, _, _), next, same))) five =
+    let P : List Token → Type 0 = λ us. TokensTo text at us stop in
+    let here : at ≡ stop = subst P empty to in
+    let Q : ℕ → Type 0 = λ n. IsNext text n (Ok (end_of text)) in
+    let place : fault.at ≡ length text = ap (λ r. r.at) same in
+    inl (subst Q (sym here) next, ap (λ n. record { kind = raws.End; start = n; stop = n; too_deep = None }) place)
+read_end text at ts fault empty (inr (inr (before, t, stop, same, _, _, _, _))) five =
+    let none = ap length (sym empty ∙ same) ∙ length-append before (t ∷ []) in absurd (omega arith)
 
 -- ---- refused
 
@@ -181,6 +218,7 @@ stuck_token : (text : List ℕ) (at stop : ℕ) (ts seen after : List Token) (t 
     → TokensTo text at ts stop → GoesPast 0 None seen → HasNoDot seen → ts ≡ seen ++ t ∷ after
     → IsBegun (rule Statement) seen → (IsBegun (rule Statement) (seen ++ t ∷ []) → ⊥) → t.kind ≢ kinds.End
     → IsRead text at (Err (Refused (refusal t fault)))
+unfolding IsRead
 stuck_token text at stop ts seen after t fault to past clear same begun stuck lexeme =
     let P : List Token → Type 0 = λ us. TokensTo text at us stop in
     let (mid, front, next, _) = tokens_split text at stop seen after t (subst P same to) in
@@ -238,6 +276,7 @@ never_behind_dot before us rest last t p all clear dot is =
 stuck_behind : (text : List ℕ) (at : ℕ) (ts us rest : List Token) (t : Token) (fault : Refusal)
     → IsStatementCut text at ts fault → (p : Stops (rule Statement) us (t ∷ rest))
     → p.seen ≡ ts → t.kind ≡ kinds.End → (ts ≡ [] → fault.code ≡ 5 → ⊥) → IsRead text at (Err (Refused fault))
+unfolding IsRead
 stuck_behind text at ts us rest t fault (inl (mid, reaches, next)) p all is inside = (
   ts,
   mid,

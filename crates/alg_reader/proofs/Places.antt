@@ -1,5 +1,4 @@
--- Places in the tokens of a statement: where `by nsatz` stands, the end, a token at which reading is stuck, and
--- the dot.
+-- Places in the tokens of a statement: the end, a token at which reading is stuck, and the dot.
 use Rattle.std.proofs.Common.{◌≡◌, ◌≢◌, ℕ, Bool, true, false, ◌&&◌, ◌==◌, not, List, [], ◌∷◌, ◌++◌, ◌⊎◌, inl, inr, length, length-append, drop, refl, ap, sym, ◌∙◌, subst, arith, append_assoc, append-nil, Option, Some, None, is_none, Ok, Err, eq-eqb}
 use Rattle.alg_tokens.specs.declared.token.Token.{Token}
 use Rattle.alg_tokens.specs.declared.token.Refusal.{Refusal}
@@ -12,7 +11,7 @@ use Rattle.alg_reader.specs.Kinds.{variant, code}
 use Rattle.alg_reader.specs.Forms as rules
 use Rattle.alg_reader.specs.Forms.{Rule, Statement, Form, a, seq, alt, opt, many, rule, Tree, token, pair, left, right, none, some, end, more, node, spelled}
 use Rattle.alg_reader.specs.Grammar.{grammar, Fits, IsBegun, body}
-use Rattle.alg_reader.specs.Reading.{Takes, Stops, EndsAtNsatz, MethodEnds, rule_goes_on}
+use Rattle.alg_reader.specs.Reading.{Takes, Stops, rule_goes_on}
 use Rattle.alg_reader.specs.Tokens.{refusal, refusal_of, TokensTo, open_with, open_after, last_kind, bar, GoesPast, HasNoDot, Reaches, IsStatementCut}
 use Rattle.alg_reader.specs.declared.raw.RawKind.{RawKind}
 use Rattle.alg_reader.specs.Meaning.{kind_value}
@@ -20,50 +19,6 @@ use Rattle.alg_reader.specs.declared.reading.FileEnd.TheVariants.{Refused}
 use Rattle.alg_reader.specs.Statements.{IsRead}
 use Rattle.alg_reader.proofs.Cutting.{tokens_more, past_more}
 use Rattle.alg_reader.proofs.Variants.{is_dot}
-
--- ---- nsatz is the last of the tokens
-
-pub by_nsatz : (depth : ℕ) (t u : Token) → t.kind ≡ kinds.Word words.By → u.kind ≡ kinds.Word words.Nsatz
-    → bar depth (Some t.kind) u.kind ≡ None → ⊥
-by_nsatz depth t u by nsatz free =
-    let barred : bar depth (Some t.kind) u.kind ≡ Some 20 = rw (by, nsatz) refl in
-    let clash = ap (λ r. is_none r) (sym barred ∙ free) in
-    cc
-
-pub past_ends : (depth : ℕ) (last : Option TokenKind) (before tail : List Token) → GoesPast depth last before
-    → MethodEnds tail → EndsAtNsatz tail → EndsAtNsatz (before ++ tail)
-past_ends depth last [] tail past here ends = ends
-past_ends depth last (t ∷ []) tail past here ends = (λ _. here, ends)
-past_ends depth last (t ∷ u ∷ before) tail (_, (free, past)) here ends = (
-  λ by nsatz. absurd (by_nsatz (open_with depth t.kind) t u by nsatz free),
-  past_ends (open_with depth t.kind) (Some t.kind) (u ∷ before) tail (free, past) here ends,
-)
-
-pub no_nsatz : (e : Token) → e.kind ≡ kinds.End → MethodEnds (e ∷ [])
-no_nsatz e is h = let clash : kinds.End ≡ kinds.Word words.Nsatz = sym is ∙ h in cc
-
-pub no_by : (e : Token) → e.kind ≡ kinds.End → EndsAtNsatz (e ∷ [])
-no_by e is = (λ h. tt, tt)
-
--- the tokens of a statement, with the end behind them
-pub cut_ends : (text : List ℕ) (at : ℕ) (tokens : List Token) (fault : Refusal) (e : Token) → e.kind ≡ kinds.End
-    → IsStatementCut text at tokens fault → EndsAtNsatz (tokens ++ e ∷ [])
-cut_ends text at tokens fault e is (inl (
-  stop,
-  reaches,
-  _,
-)) = past_ends 0 None tokens (e ∷ []) reaches.1 (no_nsatz e is) (no_by e is)
-cut_ends text at tokens fault e is (inr (inl (
-  stop,
-  reaches,
-  _,
-  _,
-))) = past_ends 0 None tokens (e ∷ []) reaches.1 (no_nsatz e is) (no_by e is)
-cut_ends text at tokens fault e is (inr (inr (before, t, stop, same, reaches, _, _, _))) =
-    let P : List Token → Type 0 = λ ts. EndsAtNsatz (ts ++ e ∷ []) in
-    let whole : (before ++ t ∷ []) ++ e ∷ [] ≡ before ++ (t ∷ e ∷ []) = append_assoc before (t ∷ []) (e ∷ []) in
-    subst P (sym same) (subst EndsAtNsatz (sym whole) (past_ends 0 None before (t ∷ e ∷ []) reaches.1 (λ _. is)
-    (λ _. no_nsatz e is, no_by e is)))
 
 -- ---- places in lists of tokens
 

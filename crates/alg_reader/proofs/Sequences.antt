@@ -30,7 +30,7 @@ pub owes_fails : {f g h : Form} {old now : List Token} {before : Value → Value
 owes_fails {h = h} {now = now} e apart o k = o.fails e (fails_first _ h apart (some_tree h) now e k)
 
 -- after one token nothing goes on
-token_apart : (k : TokenKind) (f : Form) → Disjoint (goes_on (a k)) (begins f)
+pub token_apart : (k : TokenKind) (f : Form) → Disjoint (goes_on (a k)) (begins f)
 token_apart k f n h h' = cc
 
 -- a token was read

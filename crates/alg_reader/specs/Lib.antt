@@ -4,4 +4,8 @@ pub mod Grammar
 pub mod Meaning
 pub mod Reading
 pub mod Tokens
+pub mod RawTerms
+pub mod TooDeep
+pub mod Parts
 pub mod Statements
+pub mod WellRead

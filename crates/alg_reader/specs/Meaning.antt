@@ -1,5 +1,5 @@
 -- What a derivation means, from the bottom up.
-use Rattle.std.specs.Prelude.{ℕ, Bool, true, false, List, [], ◌∷◌, ℤ, pos}
+use Rattle.std.specs.Prelude.{ℕ, Bool, true, false, List, [], ◌∷◌, Option, None, Some, ℤ, pos}
 use Rattle.alg_tokens.specs.declared.token.Token.{Token}
 use Rattle.alg_tokens.specs.declared.token.TokenKind.{TokenKind}
 use Rattle.alg_tokens.specs.declared.token.TokenKind.TheVariants as kinds
@@ -7,6 +7,7 @@ use Rattle.alg_tokens.specs.declared.token.Sign.TheVariants as signs
 use Rattle.alg_tokens.specs.declared.token.Word.TheVariants as words
 use Rattle.alg_terms.specs.declared.declarations.Kind.{Kind}
 use Rattle.alg_terms.specs.declared.declarations.Kind.TheVariants as sorts
+use Rattle.alg_reader.specs.declared.raw.RawUse.{RawUse}
 use Rattle.alg_reader.specs.declared.raw.RawMethod.{RawMethod}
 use Rattle.alg_reader.specs.declared.raw.RawMethod.TheVariants as methods
 use Rattle.alg_reader.specs.declared.raw.RawKind.{RawKind}
@@ -29,6 +30,7 @@ pub data Value : Type 0 where
   hom : Span → Span → Span → Value
   vars : List Span → Span → Value
   hyp : Span → RawEquation → Value
+  used : RawUse → Value
   method : RawMethod → ℕ → Value
   goal : RawEquation → RawMethod → ℕ → Value
 
@@ -163,10 +165,38 @@ abbrev pub method_word : TokenKind → RawMethod
 method_word (kinds.Word words.Ring) = methods.Ring
 method_word _ = methods.Field
 
--- the options of nsatz have no meaning yet, since nsatz can't be read
+-- a use under one more morphism
+abbrev pub under : Span → RawUse → RawUse
+under name u = record { path = name ∷ u.path; hyp = u.hyp }
+
+abbrev pub act_use : Value → Value
+act_use (two (one name) nothing) = used (record { path = []; hyp = span_of name })
+act_use (two (one name) (two (one paren) (two (used u) (one close)))) = used (under (span_of name) u)
+act_use _ = nothing
+
+-- the uses that follow a first one
+unfoldable pub uses_after : Value → List RawUse
+uses_after (two (two (one comma) (used u)) rest) = u ∷ uses_after rest
+uses_after _ = []
+
+-- the uses of a goal
+abbrev pub uses_of : Value → List RawUse
+uses_of (two (one word) (two (used u) rest)) = u ∷ uses_after rest
+uses_of _ = []
+
+-- the number of an option
+abbrev pub option_of : Value → Option RawNumber
+option_of (two (one word) (one n)) = Some (numeral_of n)
+option_of _ = None
+
+-- nsatz with its options
+abbrev pub nsatz_of : Value → RawMethod
+nsatz_of (two using (two power limit)) = methods.Nsatz (uses_of using) (option_of power) (option_of limit)
+nsatz_of _ = methods.Nsatz [] None None
+
 abbrev pub act_method : Value → Value
 act_method (one word) = method (method_word word.kind) word.start
-act_method (two (one word) options) = method methods.Nsatz word.start
+act_method (two (one word) options) = method (nsatz_of options) word.start
 act_method _ = nothing
 
 abbrev pub act_goal : Value → Value
@@ -192,7 +222,7 @@ act rules.Hyp v = act_hyp v
 act rules.Method v = act_method v
 act rules.Goal v = act_goal v
 act rules.Statement v = act_statement v
-act rules.Use v = v
+act rules.Use v = act_use v
 
 -- the parts' meanings, put together at each rule
 abbrev pub value : Tree → Value

@@ -4,13 +4,16 @@ use Rattle.alg_tokens.specs.declared.token.Token.{Token}
 use Rattle.alg_tokens.specs.declared.token.TokenKind.{TokenKind}
 use Rattle.alg_tokens.specs.declared.token.TokenKind.TheVariants as kinds
 use Rattle.alg_tokens.specs.declared.token.Sign.TheVariants as signs
-use Rattle.alg_tokens.specs.declared.token.Word.TheVariants as words
 use Rattle.alg_reader.specs.Kinds.{variant, code}
 use Rattle.alg_reader.specs.Forms.{Rule, Statement, Ring, Sort, Hom, Vars, Hyp, Goal, Method, Use, Sum, Product, Unary, Power, Leaf, Form, a, seq, alt, opt, many, rule, Tree, spelled}
 use Rattle.alg_reader.specs.Grammar.{Fits, IsBegun, inside}
-use Rattle.alg_reader.specs.Meaning.{Value, value, one, two, term, chain, spans}
+use Rattle.alg_reader.specs.Meaning.{Value, value, one, two, term, used, kind_value, chain, spans, uses_after}
+use Rattle.alg_reader.specs.Parts.{held, said}
 use Rattle.alg_reader.specs.declared.raw.Span.{Span}
 use Rattle.alg_reader.specs.declared.raw.RawTerm.{RawTerm}
+use Rattle.alg_reader.specs.declared.raw.RawUse.{RawUse}
+use Rattle.alg_reader.specs.declared.parts.Part.{Part}
+use Rattle.alg_reader.specs.declared.parts.Said.{Said}
 use Rattle.alg_reader.specs.declared.cursor.Fault.{Fault}
 use Rattle.alg_reader.specs.declared.cursor.Fault.TheVariants.{NoMemory, Unexpected}
 
@@ -119,13 +122,31 @@ abbrev pub Reads : {X : Type 0} → Form → (X → Value) → List Token → Re
 Reads f view old (Ok x) new = Takes f old new (view x)
 Reads f view old (Err e) new = Fails f old e
 
+-- What a reader of the form answers, which keeps of what it reads what `keep` says: the tokens taken mean some y,
+-- seen by view.
+abbrev pub ReadsKept : {X Y : Type 0} → Form → (Y → X) → (Y → Value) → List Token → Result X Fault → List Token
+    → Type 0
+ReadsKept {Y = Y} f keep view old (Ok x) new = (y : Y) × (x ≡ keep y) × Takes f old new (view y)
+ReadsKept f keep view old (Err e) new = Fails f old e
+
+-- what a reader of terms answers, and one of statements
+abbrev pub ReadsTerm : Rule → List Token → Result Part Fault → List Token → Type 0
+ReadsTerm r = ReadsKept (rule r) held term
+
+abbrev pub ReadsStatement : Form → List Token → Result Said Fault → List Token → Type 0
+ReadsStatement f = ReadsKept f said kind_value
+
+-- what is kept of what the tokens taken mean
+abbrev pub ReadsAs : {X : Type 0} → Form → (Value → X) → List Token → Result X Fault → List Token → Type 0
+ReadsAs f keep = ReadsKept f keep (λ v. v)
+
 -- what is read of something in parentheses
 abbrev pub TakesInside : List Token → List Token → RawTerm → Type 0
 TakesInside old new t = (p : Token) × (q : Token) × (p.kind ≡ kinds.Sign signs.ParenLeft)
     × Takes (inside (rule Sum)) old new (two (one p) (two (term t) (one q)))
 
-abbrev pub ReadsInside : List Token → Result RawTerm Fault → List Token → Type 0
-ReadsInside old (Ok t) new = TakesInside old new t
+abbrev pub ReadsInside : List Token → Result Part Fault → List Token → Type 0
+ReadsInside old (Ok p) new = (t : RawTerm) × (p ≡ held t) × TakesInside old new t
 ReadsInside old (Err e) new = Fails (inside (rule Sum)) old e
 
 -- an operator and its right part
@@ -137,20 +158,6 @@ pub record Continues (step : Form) (r : Rule) (old now : List Token) (acc : RawT
   pub takes : (rest : List Token) (ops : Value) → Takes (many step) now rest ops
       → Takes (rule r) old rest (term (chain acc ops))
   pub fails : (e : Fault) → Fails (many step) now e → Fails (rule r) old e
-
--- Behind `by nsatz` comes the end, since its options can't be read yet: of tokens directly behind `by`, and of all
--- tokens.
-abbrev pub BeginsWithEnd : List Token → Type 0
-BeginsWithEnd [] = ⊥
-BeginsWithEnd (t ∷ ts) = t.kind ≡ kinds.End
-
-abbrev pub MethodEnds : List Token → Type 0
-MethodEnds [] = Unit {0}
-MethodEnds (t ∷ ts) = t.kind ≡ kinds.Word words.Nsatz → BeginsWithEnd ts
-
-abbrev pub EndsAtNsatz : List Token → Type 0
-EndsAtNsatz [] = Unit {0}
-EndsAtNsatz (t ∷ ts) = (t.kind ≡ kinds.Word words.By → MethodEnds ts) × EndsAtNsatz ts
 
 -- the next token is of one of these two kinds, or of neither
 abbrev pub StartsEither : TokenKind → TokenKind → List Token → Type 0
@@ -164,7 +171,16 @@ pub record Owes (f g : Form) (old now : List Token) (before : Value → Value) :
   pub takes : (rest : List Token) (x : Value) → Takes g now rest x → Takes f old rest (before x)
   pub fails : (e : Fault) → Fails g now e → Fails f old e
 
--- what a reader of further names answers, with the first one
+-- what a reader of further names answers, with the first one, and one of further uses
 abbrev pub ReadsNames : Span → List Token → Result (List Span) Fault → List Token → Type 0
-ReadsNames first old (Ok names) new = (x : Value) × Takes (many (a kinds.Name)) old new x × (names ≡ first ∷ spans x)
-ReadsNames first old (Err e) new = Fails (many (a kinds.Name)) old e
+ReadsNames first = ReadsAs (many (a kinds.Name)) (λ v. first ∷ spans v)
+
+abbrev pub ReadsUses : RawUse → List Token → Result (List RawUse) Fault → List Token → Type 0
+ReadsUses first = ReadsAs (many (seq (a (kinds.Sign signs.Comma)) (rule Use))) (λ v. first ∷ uses_after v)
+
+-- a use behind morphisms that were read before it
+abbrev pub behind : List Span → RawUse → RawUse
+behind path u = record { path = path ++ u.path; hyp = u.hyp }
+
+abbrev pub ReadsUse : List Span → List Token → Result RawUse Fault → List Token → Type 0
+ReadsUse path = ReadsKept (rule Use) (behind path) used

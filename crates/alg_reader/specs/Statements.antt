@@ -12,6 +12,7 @@ use Rattle.alg_reader.specs.declared.reading.FileEnd.TheVariants.{Refused, NoMem
 use Rattle.alg_reader.specs.Forms.{Statement, rule, Tree, spelled}
 use Rattle.alg_reader.specs.Grammar.{Fits, IsBegun}
 use Rattle.alg_reader.specs.Meaning.{value, kind_value}
+use Rattle.alg_reader.specs.TooDeep.{kept_kind, first_of_statement}
 use Rattle.alg_reader.specs.Tokens.{TokensTo, GoesPast, Reaches, open_after, last_kind, bar}
 
 -- the grammar derives the tokens, and they say this
@@ -36,14 +37,24 @@ FaultBehind text before stop fault = IsNext text stop (Err fault)
     ⊎ ((token : Token) × IsNext text stop (Ok token) × (token.kind ≢ kinds.End) × (fault.at ≡ token.start)
     × StopsWith before token fault.code)
 
--- The end of the text, or the tokens from here to the `.` with what they say; or the first fault, behind tokens
--- that begin a statement.
-abbrev pub IsRead : List ℕ → ℕ → Result Raw FileEnd → Type 0
-IsRead text at (Ok raw) = ((raw.kind ≡ raws.End) × IsNext text at (Ok (end_of text)) × (raw.start ≡ length text)
-    × (raw.stop ≡ length text))
-    ⊎ ((first : Token) × (more : List Token) × TokensTo text at (first ∷ more) raw.stop × GoesPast 0 None (first ∷ more)
-    × IsStatement (first ∷ more) raw.kind × (raw.start ≡ first.start))
+-- the text ends here, and this says so
+abbrev pub IsEnd : List ℕ → ℕ → Raw → Type 0
+IsEnd text at raw = IsNext text at (Ok (end_of text))
+    × (raw ≡ record { kind = raws.End; start = length text; stop = length text; too_deep = None })
+
+-- what is kept of a statement, with its first too deep node
+abbrev pub Keeps : Raw → RawKind → Type 0
+Keeps raw kind = (raw.kind ≡ kept_kind kind) × (raw.too_deep ≡ first_of_statement kind)
+
+-- the tokens from here to a `.` are a statement that reading goes past, of which this is kept
+abbrev pub StandsAt : List ℕ → ℕ → Raw → Type 0
+StandsAt text at raw = (first : Token) × (more : List Token) × TokensTo text at (first ∷ more) raw.stop
+    × GoesPast 0 None (first ∷ more) × (raw.start ≡ first.start)
+    × ((kind : RawKind) × IsStatement (first ∷ more) kind × Keeps raw kind)
+
+-- the end of the text, or the statement that stands here; or the first fault, behind tokens that begin a statement
+unfoldable pub IsRead : List ℕ → ℕ → Result Raw FileEnd → Type 0
+IsRead text at (Ok raw) = IsEnd text at raw ⊎ StandsAt text at raw
 IsRead text at (Err NoMemory) = Unit {0}
 IsRead text at (Err (Refused fault)) = (before : List Token) × (stop : ℕ) × Reaches text at before stop
-    × IsBegun (rule Statement) before
-    × FaultBehind text before stop fault
+    × IsBegun (rule Statement) before × FaultBehind text before stop fault

@@ -31,12 +31,9 @@ last_kind last [] = last
 last_kind last (token ∷ tokens) = last_kind (Some token.kind) tokens
 
 -- The code with which reading stops at a token: 19 at a parenthesis where as many are open as may be, and 20 at a
--- word that can't be read
--- yet, which is `hom` or `hyp` at the front, and `field` or `nsatz` directly after `by`. To read such a word, drop
--- its case.
+-- word that can't be read yet, which is `hyp` at the front, and `field` or `nsatz` directly after `by`.
 abbrev pub bar : ℕ → Option TokenKind → TokenKind → Option ℕ
 bar depth last (kinds.Sign signs.ParenLeft) = if nat_lt depth MOST_OPEN then None else Some 19
-bar depth None (kinds.Word words.Hom) = Some 20
 bar depth None (kinds.Word words.Hyp) = Some 20
 bar depth (Some (kinds.Word words.By)) (kinds.Word words.Field) = Some 20
 bar depth (Some (kinds.Word words.By)) (kinds.Word words.Nsatz) = Some 20
@@ -65,8 +62,7 @@ LastStops text at tokens fault = (before : List Token) × (token : Token) × (st
     (last_kind None before) token.kind ≡ Some fault.code) × (fault.at ≡ token.start)))
 
 -- The tokens from a place on as far as reading can go, and the fault that it meets if it comes behind them: a text
--- that can't be cut, its
--- end, or what stops it at the last token.
+-- that can't be cut, its end, or what stops it at the last token.
 abbrev pub IsStatementCut : List ℕ → ℕ → List Token → Refusal → Type 0
 IsStatementCut text at tokens fault =
     ((stop : ℕ) × Reaches text at tokens stop × IsNext text stop (Err fault))

@@ -3,13 +3,15 @@
 
 mod cursor;
 mod kinds;
+mod parts;
 mod raw;
 mod reading;
 mod statements;
 mod terms;
 mod tokens;
+mod uses;
 
-pub use raw::{RawEquation, RawKind, RawMethod, RawNode, RawNumber, RawTerm, Span};
+pub use raw::{RawEquation, RawKind, RawMethod, RawNode, RawNumber, RawTerm, RawUse, Span};
 pub use reading::{FileEnd, Place, Raw, read_statement};
 
 #[cfg(test)]

@@ -7,6 +7,7 @@ ghost use Rattle.alg_reader.specs.Statements.{IsRead};
 ghost use Rattle.alg_reader.specs.Tokens.{refusal};
 
 use crate::cursor::{Cursor, Fault};
+use crate::parts::Said;
 use crate::raw::RawKind;
 use crate::tokens::{ENDS, cut_statement};
 use alg_tokens::{Refusal, Token, TokenKind};
@@ -25,12 +26,14 @@ pub enum Place {
     Steps,
 }
 
-/// A statement with its first byte and the byte behind its `.`.
+/// A statement with its first byte and the byte behind its `.`, and the head of the first node in
+/// postorder whose depth is over 1,000. In the place of such a node stands the literal 0 at its head.
 #[derive(Debug, Drop)]
 pub struct Raw {
     pub kind: RawKind,
     pub start: u32,
     pub stop: u32,
+    pub too_deep: Option<u32>,
 }
 
 /// Why nothing is read: a fault of the text, or want of memory.
@@ -72,12 +75,18 @@ pub fn read_statement(alloc: Global, text: &str, at: u32, _place: Place) -> Resu
             kind: RawKind::End,
             start: fault.at,
             stop: fault.at,
+            too_deep: None,
         });
     }
     let (start, stop) = ends_of(&cut.tokens, at);
     let mut cursor = Cursor::new(&cut.tokens, end);
     match cursor.statement(alloc) {
-        Ok(kind) => Ok(Raw { kind, start, stop }),
+        Ok(Said { kind, too_deep }) => Ok(Raw {
+            kind,
+            start,
+            stop,
+            too_deep,
+        }),
         Err(Fault::NoMemory) => Err(FileEnd::NoMemory),
         Err(Fault::Unexpected(token)) => Err(FileEnd::Refused(refusal(token, fault))),
     }

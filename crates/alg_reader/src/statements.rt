@@ -1,34 +1,34 @@
 //! Statements, each part by part.
 
 ghost use Rattle.std.specs.Prelude.{◌≡◌};
+ghost use Rattle.std.specs.Option.{option_or};
 ghost use Rattle.alg_reader.specs.Forms as rules;
 ghost use Rattle.alg_reader.specs.Forms.{rule};
-ghost use Rattle.alg_reader.specs.Reading.{Reads, ReadsNames, EndsAtNsatz, MethodEnds};
+ghost use Rattle.alg_reader.specs.Reading.{Reads, ReadsNames, ReadsStatement};
 ghost use Rattle.alg_reader.specs.Grammar.{body};
-ghost use Rattle.alg_reader.specs.Meaning.{kind_value, method_value, sides, sort_word, method_word, is_unequal};
+ghost use Rattle.alg_reader.specs.Parts.{said, HasNoTerms};
+ghost use Rattle.alg_reader.specs.Meaning.{method_value, sides, sort_word, method_word, is_unequal};
 
 use crate::cursor::{Cursor, Fault};
-use crate::raw::{RawEquation, RawKind, RawMethod, RawTerm, Span};
-use crate::terms::span_of;
+use crate::parts::{Part, Said, span_of};
+use crate::raw::{RawEquation, RawKind, RawMethod, Span};
 use alg_terms::{Kind, Seq};
 use alg_tokens::{Sign, Token, TokenKind, Word};
 use std::alloc::Global;
 
 impl Cursor<'_> {
     /// A statement to its `.`.
-    pub fn statement(&mut self, alloc: Global) -> Result<RawKind, Fault>
-        requires { EndsAtNsatz self.old }
-        ensures { Reads (rule rules.Statement) kind_value self.old result self.new }
+    pub fn statement(&mut self, alloc: Global) -> Result<Said, Fault>
+        ensures { ReadsStatement (rule rules.Statement) self.old result self.new }
     {
-        let kind = self.body(alloc)?;
+        let said = self.body(alloc)?;
         let _dot = self.expect(TokenKind::Sign(Sign::Dot))?;
-        Ok(kind)
+        Ok(said)
     }
 
     /// What a statement says, by its first word.
-    fn body(&mut self, alloc: Global) -> Result<RawKind, Fault>
-        requires { EndsAtNsatz self.old }
-        ensures { Reads body kind_value self.old result self.new }
+    fn body(&mut self, alloc: Global) -> Result<Said, Fault>
+        ensures { ReadsStatement body self.old result self.new }
     {
         if self.sees(TokenKind::Word(Word::Ring)) {
             return self.ring();
@@ -49,21 +49,21 @@ impl Cursor<'_> {
     }
 
     /// `ring R`
-    fn ring(&mut self) -> Result<RawKind, Fault>
-        ensures { Reads (rule rules.Ring) kind_value self.old result self.new }
+    fn ring(&mut self) -> Result<Said, Fault>
+        ensures { ReadsStatement (rule rules.Ring) self.old result self.new }
     {
         let _ring = self.expect(TokenKind::Word(Word::Ring))?;
         let name = self.expect(TokenKind::Name)?;
-        Ok(RawKind::Sort {
+        Ok(plain(RawKind::Sort {
             kind: Kind::Ring,
             name: span_of(name),
             char0: false,
-        })
+        }))
     }
 
     /// `hom f : R -> S`
-    fn hom(&mut self) -> Result<RawKind, Fault>
-        ensures { Reads (rule rules.Hom) kind_value self.old result self.new }
+    fn hom(&mut self) -> Result<Said, Fault>
+        ensures { ReadsStatement (rule rules.Hom) self.old result self.new }
     {
         let _hom = self.expect(TokenKind::Word(Word::Hom))?;
         let name = self.expect(TokenKind::Name)?;
@@ -71,50 +71,50 @@ impl Cursor<'_> {
         let from = self.expect(TokenKind::Name)?;
         let _arrow = self.expect(TokenKind::Sign(Sign::Arrow))?;
         let to = self.expect(TokenKind::Name)?;
-        Ok(RawKind::Hom {
+        Ok(plain(RawKind::Hom {
             name: span_of(name),
             from: span_of(from),
             to: span_of(to),
-        })
+        }))
     }
 
     /// `domain D`, or `field F char 0`
-    fn sort(&mut self) -> Result<RawKind, Fault>
-        ensures { Reads (rule rules.Sort) kind_value self.old result self.new }
+    fn sort(&mut self) -> Result<Said, Fault>
+        ensures { ReadsStatement (rule rules.Sort) self.old result self.new }
     {
         let word = self.expect_either(TokenKind::Word(Word::Domain), TokenKind::Word(Word::Field))?;
         let name = self.expect(TokenKind::Name)?;
         let kind = sort_word(word.kind);
         let name = span_of(name);
         if !self.sees(TokenKind::Word(Word::Char)) {
-            return Ok(RawKind::Sort {
+            return Ok(plain(RawKind::Sort {
                 kind,
                 name,
                 char0: false,
-            });
+            }));
         }
         let _char = self.take();
         let _zero = self.expect(TokenKind::Number(0))?;
-        Ok(RawKind::Sort {
+        Ok(plain(RawKind::Sort {
             kind,
             name,
             char0: true,
-        })
+        }))
     }
 
     /// `var x y : R`
-    fn vars(&mut self, alloc: Global) -> Result<RawKind, Fault>
-        ensures { Reads (rule rules.Vars) kind_value self.old result self.new }
+    fn vars(&mut self, alloc: Global) -> Result<Said, Fault>
+        ensures { ReadsStatement (rule rules.Vars) self.old result self.new }
     {
         let _var = self.expect(TokenKind::Word(Word::Var))?;
         let first = self.expect(TokenKind::Name)?;
         let names = self.names(alloc, span_of(first))?;
         let _colon = self.expect(TokenKind::Sign(Sign::Colon))?;
         let sort = self.expect(TokenKind::Name)?;
-        Ok(RawKind::Vars {
+        Ok(plain(RawKind::Vars {
             names,
             sort: span_of(sort),
-        })
+        }))
     }
 
     /// A first name and those that follow it.
@@ -131,8 +131,8 @@ impl Cursor<'_> {
     }
 
     /// `hyp H : t = u`, or with `<>`
-    fn hyp(&mut self, alloc: Global) -> Result<RawKind, Fault>
-        ensures { Reads (rule rules.Hyp) kind_value self.old result self.new }
+    fn hyp(&mut self, alloc: Global) -> Result<Said, Fault>
+        ensures { ReadsStatement (rule rules.Hyp) self.old result self.new }
     {
         let _hyp = self.expect(TokenKind::Word(Word::Hyp))?;
         let name = self.expect(TokenKind::Name)?;
@@ -143,38 +143,41 @@ impl Cursor<'_> {
             TokenKind::Sign(Sign::NotEqual),
         )?;
         let right = self.sum(alloc)?;
-        Ok(RawKind::Hyp {
+        let (equation, too_deep) = sides(left, relation, right);
+        let kind = RawKind::Hyp {
             name: span_of(name),
-            equation: sides(left, relation, right),
-        })
+            equation,
+        };
+        Ok(Said { kind, too_deep })
     }
 
     /// `goal t = u by method`
-    fn goal(&mut self, alloc: Global) -> Result<RawKind, Fault>
-        requires { EndsAtNsatz self.old }
-        ensures { Reads (rule rules.Goal) kind_value self.old result self.new }
+    fn goal(&mut self, alloc: Global) -> Result<Said, Fault>
+        ensures { ReadsStatement (rule rules.Goal) self.old result self.new }
     {
         let _goal = self.expect(TokenKind::Word(Word::Goal))?;
         let left = self.sum(alloc)?;
         let equal = self.expect(TokenKind::Sign(Sign::Equal))?;
         let right = self.sum(alloc)?;
         let _by = self.expect(TokenKind::Word(Word::By))?;
-        let (method, method_at) = self.method()?;
-        Ok(RawKind::Goal {
-            equation: sides(left, equal, right),
+        let (method, method_at) = self.method(alloc)?;
+        let (equation, too_deep) = sides(left, equal, right);
+        let kind = RawKind::Goal {
+            equation,
             method,
             method_at,
-        })
+        };
+        Ok(Said { kind, too_deep })
     }
 
-    /// The method of a goal and its place. Behind `nsatz` nothing comes yet but the end.
-    fn method(&mut self) -> Result<(RawMethod, u32), Fault>
-        requires { MethodEnds self.old }
+    /// The method of a goal and its place.
+    fn method(&mut self, alloc: Global) -> Result<(RawMethod, u32), Fault>
         ensures { Reads (rule rules.Method) method_value self.old result self.new }
     {
         if self.sees(TokenKind::Word(Word::Nsatz)) {
             let word = self.take();
-            return Ok((RawMethod::Nsatz, word.start));
+            let method = self.options(alloc)?;
+            return Ok((method, word.start));
         }
         let word = self.expect_either(TokenKind::Word(Word::Ring), TokenKind::Word(Word::Field))?;
         Ok((method_word(word.kind), word.start))
@@ -206,13 +209,27 @@ fn is_unequal(kind: TokenKind) -> bool
     matches!(kind, TokenKind::Sign(Sign::NotEqual))
 }
 
-fn sides(left: RawTerm, relation: Token, right: RawTerm) -> RawEquation
-    ensures { result ≡ sides left relation right }
+/// A statement without terms.
+fn plain(kind: RawKind) -> Said
+    requires { HasNoTerms kind }
+    ensures { result ≡ said kind }
 {
-    RawEquation {
-        left,
+    Said {
+        kind,
+        too_deep: None,
+    }
+}
+
+/// What is kept of an equation, and its first too deep node.
+fn sides(left: Part, relation: Token, right: Part) -> (RawEquation, Option<u32>)
+    ensures equation { result.0 ≡ sides left.term relation right.term }
+    ensures too_deep { result.1 ≡ option_or left.too_deep right.too_deep }
+{
+    let equation = RawEquation {
+        left: left.term,
         relation: relation.start,
         nonzero: is_unequal(relation.kind),
-        right,
-    }
+        right: right.term,
+    };
+    (equation, left.too_deep.or(right.too_deep))
 }

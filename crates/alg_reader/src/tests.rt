@@ -52,7 +52,7 @@ fn the_first_statement_or_fault(rt: HostRuntime) {
             Found::Fault(3, 9),
         ),
         (".", Found::Fault(4, 0)),
-        ("hom f : R -> R.", Found::Fault(20, 0)),
+        ("hom f : R -> S.", Found::Read(0, 15)),
         ("hyp H : x = y.", Found::Fault(20, 0)),
         ("goal x = y by field.", Found::Fault(20, 14)),
         ("goal x = y by nsatz.", Found::Fault(20, 14)),

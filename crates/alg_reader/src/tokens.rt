@@ -94,7 +94,6 @@ fn bar(depth: u32, last: Option<TokenKind>, kind: TokenKind) -> Option<u8>
                 Some(NESTING)
             }
         }
-        (None, TokenKind::Word(Word::Hom)) => Some(LATER),
         (None, TokenKind::Word(Word::Hyp)) => Some(LATER),
         (Some(TokenKind::Word(Word::By)), TokenKind::Word(Word::Field)) => Some(LATER),
         (Some(TokenKind::Word(Word::By)), TokenKind::Word(Word::Nsatz)) => Some(LATER),

@@ -1,4 +1,4 @@
-use Rattle.std.proofs.Common.{◌≡◌, refl, subst, ap, ◌∙◌, ◌++◌, ◌∷◌, [], List, arith, length}
+use Rattle.std.proofs.Common.{◌≡◌, refl, subst, ap, ◌∙◌, ◌++◌, ◌∷◌, [], ◌<◌, List, arith, length}
 use Rattle.std.proofs.lemmas.Bool.Decides.{nat_tests}
 use Rattle.alg_tokens.specs.declared.token.Token.{Token}
 use Rattle.alg_reader.specs.Forms.{Statement, rule}
@@ -6,16 +6,10 @@ use Rattle.alg_reader.specs.Meaning.{kind_value}
 use Rattle.alg_reader.specs.Reading.{Takes, Stops, Fails}
 use Rattle.alg_reader.specs.declared.cursor.Fault.TheVariants.{Unexpected}
 use Rattle.alg_tokens.specs.declared.token.TokenKind.TheVariants as kinds
-use Rattle.alg_reader.proofs.Places.{cut_ends}
-use Rattle.alg_reader.proofs.Outcomes.{read_ok, read_refused}
+use Rattle.alg_reader.proofs.Chains.{empty_below_one}
+use Rattle.alg_reader.proofs.Outcomes.{no_memory, passed_no_memory, read_end, read_ok, read_refused}
 use Rattle.alg_reader.proofs.reading.read_statement.Goals as goal
 use Rattle.alg_reader.proofs.reading.read_statement.Goals.{else-is_empty-via-then-is_empty+else-fault-eq-ENDS, else-is_empty-via-else-is_empty}
-
-pub statement-requires : goal.statement-requires
-statement-requires c =
-    let ends = cut_ends c.args.text.now c.args.at c.in_ok-cut.cut.tokens.items c.in_ok-cut.cut.fault _ refl
-    c.in_ok-cut.ensures in
-    rw (c.new-cursor.ensures, c.deref-2.ensures.value) ends
 
 -- the tokens are a statement
 pub returns-in-Ok : goal.returns-in-Ok
@@ -25,10 +19,10 @@ returns-in-Ok c =
     let e : Token = record { kind = kinds.End; start = fault.at; stop = fault.at } in
     let whole : c.new-cursor.result ≡ tokens ++ e ∷ [] = c.new-cursor.ensures
     ∙ ap (λ us. us ++ e ∷ []) c.deref-2.ensures.value in
-    let P : List Token → Type 0 = λ us. Takes (rule Statement) us c.statement.new.self (kind_value c.in-Ok.kind) in
+    let (kind, keeps, p) = c.in-Ok.ensures in
+    let P : List Token → Type 0 = λ us. Takes (rule Statement) us c.statement.new.self (kind_value kind) in
     read_ok c.args.text.now c.args.at c.ends_of-start.result.0 c.ends_of-start.result.1 tokens c.statement.new.self
-    fault e c.in-Ok.kind refl c.in_ok-cut.ensures
-    (subst P whole c.in-Ok.ensures)
+    fault e _ kind keeps refl c.in_ok-cut.ensures (subst P whole p)
     (λ u us e. c.ends_of-start.ensures.start u us (c.deref.ensures.value ∙ e))
     (λ us u e. c.ends_of-start.ensures.stop us u (c.deref.ensures.value ∙ e))
 
@@ -55,3 +49,18 @@ returns c =
     ] in
     rw c.refusal.ensures (read_refused c.args.text.now c.args.at tokens rest e t fault refl c.in_ok-cut.ensures
     some (subst P whole stops))
+
+-- there is no memory for the tokens, or for what they say
+pub returns-in_err-cut : goal.returns-in_err-cut
+returns-in_err-cut c = passed_no_memory c.args.text.now c.args.at c.from_residual.result c.from_residual.ensures.1
+
+pub returns-in-Err-NoMemory : goal.returns-in-Err-NoMemory
+returns-in-Err-NoMemory c = no_memory c.args.text.now c.args.at
+
+-- the text ends
+pub returns-then-fault-eq-ENDS : goal.returns-then-fault-eq-ENDS
+returns-then-fault-eq-ENDS c =
+    let tokens = c.in_ok-cut.cut.tokens.items in
+    let few : length tokens < 1 = let empty = c.if-is_empty.ensures in grind (arith, nat_tests) in
+    read_end c.args.text.now c.args.at tokens c.in_ok-cut.cut.fault (empty_below_one tokens few) c.in_ok-cut.ensures
+    c.if-fault-eq-ENDS.true

@@ -1,4 +1,4 @@
-use Rattle.std.proofs.Common.{◌≤◌, ◌+◌, ◌*◌, List, length}
+use Rattle.std.proofs.Common.{◌≡◌, ◌≤◌, ◌+◌, ◌*◌, List, length}
 use Rattle.alg_tokens.specs.declared.token.Token.{Token}
 use Rattle.alg_tokens.specs.declared.token.TokenKind.TheVariants as kinds
 use Rattle.alg_tokens.specs.declared.token.Sign.TheVariants as signs
@@ -6,6 +6,7 @@ use Rattle.alg_reader.specs.declared.raw.RawTerm.{RawTerm}
 use Rattle.alg_reader.specs.declared.cursor.Fault.{Fault}
 use Rattle.alg_reader.specs.Forms.{rule, Sum, Product, Unary}
 use Rattle.alg_reader.specs.Meaning.{term, opposites}
+use Rattle.alg_reader.specs.Parts.{held}
 use Rattle.alg_reader.specs.Reading.{Takes, Fails, Continues, turn}
 use Rattle.alg_reader.proofs.cursor.Cursor.+terms.Given as goal
 
@@ -28,15 +29,15 @@ abbrev pub decreases-inside : goal.decreases-inside
 decreases-inside l = length l.self.now * 6 + 0
 
 abbrev pub invariant-sum-turns : goal.invariant-sum-turns
-invariant-sum-turns l = Continues (turn (kinds.Sign signs.Plus)
-    (kinds.Sign signs.Minus) Product) Sum l.fn.self l.self l.sum × (length l.self ≤ length l.fn.self)
+invariant-sum-turns l = (t : RawTerm) × (l.sum ≡ held t) × Continues (turn (kinds.Sign signs.Plus)
+    (kinds.Sign signs.Minus) Product) Sum l.fn.self l.self t × (length l.self ≤ length l.fn.self)
 
 abbrev pub decreases-sum-turns : goal.decreases-sum-turns
 decreases-sum-turns l = length l.self
 
 abbrev pub invariant-product-turns : goal.invariant-product-turns
-invariant-product-turns l = Continues (turn (kinds.Sign signs.Star)
-    (kinds.Sign signs.Slash) Unary) Product l.fn.self l.self l.product × (length l.self ≤ length l.fn.self)
+invariant-product-turns l = (t : RawTerm) × (l.product ≡ held t) × Continues (turn (kinds.Sign signs.Star)
+    (kinds.Sign signs.Slash) Unary) Product l.fn.self l.self t × (length l.self ≤ length l.fn.self)
 
 abbrev pub decreases-product-turns : goal.decreases-product-turns
 decreases-product-turns l = length l.self

@@ -31,4 +31,4 @@ pub returns : goal.returns
 unfolding spans
 returns c =
     let (x, q, e) = c.names.invariant _ nothing (takes_end (a kinds.Name) refl (λ n h h'. cc) _ c.names-test.ensures) in
-    (x, q, c.from_vec.ensures ∙ sym (append-nil c.names.names.items) ∙ e)
+    (x, c.from_vec.ensures ∙ sym (append-nil c.names.names.items) ∙ e, q)
