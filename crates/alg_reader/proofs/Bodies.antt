@@ -12,7 +12,7 @@ use Rattle.alg_reader.specs.Grammar.{word, body}
 use Rattle.alg_reader.specs.Meaning.{kind_value}
 use Rattle.alg_reader.specs.Parts.{said}
 use Rattle.alg_reader.specs.Reading.{begins, rule_begins, Starts, Lacks, ReadsStatement, StartsEither, LacksBoth}
-use Rattle.alg_reader.proofs.Laws.{Disjoint}
+use Rattle.alg_reader.proofs.Ahead.{Disjoint}
 use Rattle.alg_reader.proofs.Choices.{left_kept, right_kept}
 
 ring_apart : Disjoint (begins (rule Ring)) (begins (alt (rule Sort) (alt (rule Hom) (alt (rule Vars) (alt

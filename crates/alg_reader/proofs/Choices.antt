@@ -13,7 +13,10 @@ use Rattle.alg_reader.specs.Forms.{Form, a, seq, alt, many, rule, Method, Use, S
 use Rattle.alg_reader.specs.Grammar.{grammar, word, number, option, using, options, body}
 use Rattle.alg_reader.specs.Meaning.{Value, one, two, nothing, act}
 use Rattle.alg_reader.specs.Reading.{nullable, begins, goes_on, rule_goes_on, rule_begins, Starts, Lacks, Reads, ReadsKept}
-use Rattle.alg_reader.proofs.Laws.{Disjoint, takes_seq, takes_left, takes_right, takes_none, takes_rule}
+use Rattle.alg_reader.proofs.Ahead.{Disjoint}
+use Rattle.alg_reader.proofs.ReadSequences.{takes_seq}
+use Rattle.alg_reader.proofs.ReadChoices.{takes_left, takes_right, takes_none}
+use Rattle.alg_reader.proofs.ReadRows.{takes_rule}
 use Rattle.alg_reader.proofs.Failing.{fails_left, fails_right}
 
 -- two kinds of tokens

@@ -11,7 +11,10 @@ use Rattle.alg_reader.specs.declared.parts.Part.{Part}
 use Rattle.alg_reader.specs.declared.parts.Said.{Said}
 use Rattle.alg_reader.specs.Meaning.{Value, term, kind_value}
 use Rattle.alg_reader.specs.Parts.{held, said}
-use Rattle.alg_reader.proofs.Laws.{Disjoint, stops_first, stops_second, stops_left, stops_right, stops_some, stops_turn, stops_later, stops_rule}
+use Rattle.alg_reader.proofs.Ahead.{Disjoint}
+use Rattle.alg_reader.proofs.ReadSequences.{stops_first, stops_second}
+use Rattle.alg_reader.proofs.ReadChoices.{stops_left, stops_right, stops_some}
+use Rattle.alg_reader.proofs.ReadRows.{stops_turn, stops_later, stops_rule}
 
 -- ---- the front of a derivation
 

@@ -12,7 +12,10 @@ use Rattle.alg_reader.specs.Forms.{Sum, Product, Unary, Power, Leaf, Form, a, se
 use Rattle.alg_reader.specs.Grammar.{grammar, Fits, number, zero, inside as parens}
 use Rattle.alg_reader.specs.Reading.{nullable, begins, goes_on, rule_goes_on, rule_begins, Starts, Lacks, Takes, Stops, Fails, TakesInside, ReadsInside, ReadsTerm}
 use Rattle.alg_reader.specs.Meaning.{Value, one, two, nothing, term, value, act, literal, variable, image, opposite, power_of, leaf_one, leaf_two, named}
-use Rattle.alg_reader.proofs.Laws.{Disjoint, or_first, an, an-code, takes_token, stops_token, stops_right, takes_seq, takes_left, takes_right, takes_some, takes_none, takes_rule}
+use Rattle.alg_reader.proofs.Ahead.{Disjoint, or_first}
+use Rattle.alg_reader.proofs.ReadSequences.{an, an-code, takes_token, stops_token, takes_seq}
+use Rattle.alg_reader.proofs.ReadChoices.{stops_right, takes_left, takes_right, takes_some, takes_none}
+use Rattle.alg_reader.proofs.ReadRows.{takes_rule}
 use Rattle.alg_reader.proofs.Failing.{fails_first, fails_second, fails_left, fails_right, fails_some, fails_rule}
 use Rattle.alg_reader.proofs.Variants.{is_paren, is_name, is_numeral}
 use Rattle.alg_reader.proofs.Turns.{or_falses}

@@ -1,7 +1,10 @@
 pub mod Built
 pub mod Depths
 pub mod Held
-pub mod Laws
+pub mod Ahead
+pub mod ReadSequences
+pub mod ReadChoices
+pub mod ReadRows
 pub mod Failing
 pub mod Turns
 pub mod Variants
@@ -14,4 +17,10 @@ pub mod Choices
 pub mod Bodies
 pub mod Options
 pub mod Places
+pub mod Boundaries
+pub mod Found
+pub mod Nodes
+pub mod Rules
+pub mod Derivations
+pub mod WellRead
 pub mod Outcomes

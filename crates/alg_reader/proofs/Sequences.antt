@@ -7,7 +7,9 @@ use Rattle.alg_reader.specs.Forms.{Rule, Form, a, seq, rule}
 use Rattle.alg_reader.specs.Grammar.{grammar}
 use Rattle.alg_reader.specs.Reading.{begins, goes_on, Takes, Fails, Owes}
 use Rattle.alg_reader.specs.Meaning.{Value, two, act}
-use Rattle.alg_reader.proofs.Laws.{Disjoint, takes_seq, takes_rule}
+use Rattle.alg_reader.proofs.Ahead.{Disjoint}
+use Rattle.alg_reader.proofs.ReadSequences.{takes_seq}
+use Rattle.alg_reader.proofs.ReadRows.{takes_rule}
 use Rattle.alg_reader.proofs.Failing.{fails_first, fails_second, fails_rule}
 use Rattle.alg_reader.proofs.Trees.{some_tree}
 

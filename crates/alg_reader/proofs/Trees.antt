@@ -7,7 +7,7 @@ use Rattle.alg_tokens.specs.declared.token.Sign.TheVariants as signs
 use Rattle.alg_reader.specs.Forms as rules
 use Rattle.alg_reader.specs.Forms.{Rule, Form, a, seq, alt, opt, many, rule, Tree, token, pair, left, right, none, some, end, more, node}
 use Rattle.alg_reader.specs.Grammar.{grammar, Fits}
-use Rattle.alg_reader.proofs.Laws.{an, an-code}
+use Rattle.alg_reader.proofs.ReadSequences.{an, an-code}
 
 -- a derivation from a form
 abbrev pub Derived : Form → Type 0

@@ -11,7 +11,10 @@ use Rattle.alg_reader.specs.Forms.{Rule, Sum, Product, Unary, Form, a, seq, alt,
 use Rattle.alg_reader.specs.Grammar.{grammar}
 use Rattle.alg_reader.specs.Reading.{begins, goes_on, rule_goes_on, Starts, Lacks, Takes, Fails, turn, Continues, StartsEither, LacksBoth}
 use Rattle.alg_reader.specs.Meaning.{Value, one, two, nothing, term, act, act_sum, chain, binary}
-use Rattle.alg_reader.proofs.Laws.{Disjoint, or_first, or_true, takes_token, takes_seq, takes_left, takes_right, takes_end, takes_more, takes_rule}
+use Rattle.alg_reader.proofs.Ahead.{Disjoint, or_first, or_true}
+use Rattle.alg_reader.proofs.ReadSequences.{takes_token, takes_seq}
+use Rattle.alg_reader.proofs.ReadChoices.{takes_left, takes_right}
+use Rattle.alg_reader.proofs.ReadRows.{takes_end, takes_more, takes_rule}
 use Rattle.alg_reader.proofs.Failing.{fails_first, fails_second, fails_turn, fails_later, fails_rule}
 
 -- the token is one of these two kinds

@@ -64,6 +64,18 @@ is_numeral (kinds.Sign sign) (inr h) = absurd (omega arith)
 is_numeral kinds.End (inl h) = absurd (omega arith)
 is_numeral kinds.End (inr h) = absurd (omega arith)
 
+-- a word, by its number
+module _ (word : Word) (alone : (w : Word) → word_number w ≡ word_number word → w ≡ word) where
+  is_word : (kind : TokenKind) → variant (kinds.Word word) ≡ variant kind → kind ≡ kinds.Word word
+  is_word kinds.Name h = absurd (omega arith)
+  is_word (kinds.Word w) h = ap (λ w. kinds.Word w) (alone w (omega arith))
+  is_word (kinds.Number value) h = elim (not_numeral value (variant (kinds.Word word)) h) [
+    | inl e ↦ absurd (omega arith)
+    | inr e ↦ absurd (omega arith)
+  ]
+  is_word (kinds.Sign sign) h = let small = sign_small sign in absurd (omega arith)
+  is_word kinds.End h = absurd (omega arith)
+
 nsatz_word : (word : Word) → word_number word ≡ 21 → word ≡ words.Nsatz
 nsatz_word word = elim word as (λ w. word_number w ≡ 21 → w ≡ words.Nsatz) [
   | words.Nsatz ↦ λ h. refl
@@ -72,15 +84,7 @@ nsatz_word word = elim word as (λ w. word_number w ≡ 21 → w ≡ words.Nsatz
 ]
 
 pub is_nsatz : (kind : TokenKind) → variant (kinds.Word words.Nsatz) ≡ variant kind → kind ≡ kinds.Word words.Nsatz
-is_nsatz kinds.Name h = absurd (omega arith)
-is_nsatz (kinds.Word word) h = ap (λ w. kinds.Word w) (nsatz_word word (omega arith))
-is_nsatz (kinds.Number value) h = elim (not_numeral value 38 h) [
-  | inl e ↦ absurd (omega arith)
-  | inr e ↦ absurd
-      (omega arith)
-]
-is_nsatz (kinds.Sign sign) h = let small = sign_small sign in absurd (omega arith)
-is_nsatz kinds.End h = absurd (omega arith)
+is_nsatz = is_word words.Nsatz nsatz_word
 
 by_word : (word : Word) → word_number word ≡ 5 → word ≡ words.By
 by_word word = elim word as (λ w. word_number w ≡ 5 → w ≡ words.By) [
@@ -90,15 +94,27 @@ by_word word = elim word as (λ w. word_number w ≡ 5 → w ≡ words.By) [
 ]
 
 pub is_by : (kind : TokenKind) → variant (kinds.Word words.By) ≡ variant kind → kind ≡ kinds.Word words.By
-is_by kinds.Name h = absurd (omega arith)
-is_by (kinds.Word word) h = ap (λ w. kinds.Word w) (by_word word (omega arith))
-is_by (kinds.Number value) h = elim (not_numeral value 22 h) [
-  | inl e ↦ absurd (omega arith)
-  | inr e ↦ absurd
-      (omega arith)
+is_by = is_word words.By by_word
+
+ring_word : (word : Word) → word_number word ≡ 26 → word ≡ words.Ring
+ring_word word = elim word as (λ w. word_number w ≡ 26 → w ≡ words.Ring) [
+  | words.Ring ↦ λ h. refl
+  | words.Additive ↦ λ h. absurd (omega arith)
+  | _ ↦ λ h. absurd (omega arith)
 ]
-is_by (kinds.Sign sign) h = let small = sign_small sign in absurd (omega arith)
-is_by kinds.End h = absurd (omega arith)
+
+pub is_ring : (kind : TokenKind) → variant (kinds.Word words.Ring) ≡ variant kind → kind ≡ kinds.Word words.Ring
+is_ring = is_word words.Ring ring_word
+
+field_word : (word : Word) → word_number word ≡ 10 → word ≡ words.Field
+field_word word = elim word as (λ w. word_number w ≡ 10 → w ≡ words.Field) [
+  | words.Field ↦ λ h. refl
+  | words.Additive ↦ λ h. absurd (omega arith)
+  | _ ↦ λ h. absurd (omega arith)
+]
+
+pub is_field : (kind : TokenKind) → variant (kinds.Word words.Field) ≡ variant kind → kind ≡ kinds.Word words.Field
+is_field = is_word words.Field field_word
 
 dot_sign : (sign : Sign) → sign_number sign ≡ 0 → sign ≡ signs.Dot
 dot_sign sign = elim sign as (λ s. sign_number s ≡ 0 → s ≡ signs.Dot) [

@@ -9,3 +9,4 @@ pub mod TooDeep
 pub mod Parts
 pub mod Statements
 pub mod WellRead
+pub mod Laws

@@ -3,6 +3,7 @@
 
 mod cursor;
 mod kinds;
+pub mod laws;
 mod parts;
 mod raw;
 mod reading;

@@ -4,7 +4,7 @@ use Rattle.alg_tokens.specs.declared.token.Token.{Token}
 use Rattle.alg_reader.specs.Forms.{a}
 use Rattle.alg_reader.specs.Meaning.{one}
 use Rattle.alg_reader.specs.Reading.{Takes, Stops}
-use Rattle.alg_reader.proofs.Laws.{takes_token, stops_token}
+use Rattle.alg_reader.proofs.ReadSequences.{takes_token, stops_token}
 use Rattle.alg_reader.proofs.cursor.Cursor.expect.Goals as goal
 
 pub returns-then-not-same_kind : goal.returns-then-not-same_kind

@@ -5,7 +5,9 @@ use Rattle.alg_reader.specs.Forms as rules
 use Rattle.alg_reader.specs.Forms.{rule, seq, alt}
 use Rattle.alg_reader.specs.Grammar.{grammar, word, options}
 use Rattle.alg_reader.specs.Meaning.{method_value, act}
-use Rattle.alg_reader.proofs.Laws.{takes_seq, takes_left, takes_right, takes_rule}
+use Rattle.alg_reader.proofs.ReadSequences.{takes_seq}
+use Rattle.alg_reader.proofs.ReadChoices.{takes_left, takes_right}
+use Rattle.alg_reader.proofs.ReadRows.{takes_rule}
 use Rattle.alg_reader.proofs.Failing.{passed, fails_second, fails_left, fails_right, fails_rule}
 use Rattle.alg_reader.proofs.Leaves.{taken, starts_seq, lacks_seq}
 use Rattle.alg_reader.proofs.Choices.{nsatz_apart, options_apart}

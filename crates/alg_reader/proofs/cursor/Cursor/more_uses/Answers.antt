@@ -4,7 +4,8 @@ use Rattle.alg_tokens.specs.declared.token.Sign.TheVariants as signs
 use Rattle.alg_reader.specs.Forms.{a, many, rule, Use}
 use Rattle.alg_reader.specs.Meaning.{one, two, nothing, used, uses_after}
 use Rattle.alg_reader.specs.Reading.{behind}
-use Rattle.alg_reader.proofs.Laws.{takes_seq, takes_more, takes_end}
+use Rattle.alg_reader.proofs.ReadSequences.{takes_seq}
+use Rattle.alg_reader.proofs.ReadRows.{takes_more, takes_end}
 use Rattle.alg_reader.proofs.Failing.{passed_kept, fails_second, fails_turn, fails_later}
 use Rattle.alg_reader.proofs.Leaves.{taken, starts_seq, lacks_seq}
 use Rattle.alg_reader.proofs.Sequences.{token_apart}

@@ -6,7 +6,8 @@ use Rattle.alg_reader.specs.Forms as rules
 use Rattle.alg_reader.specs.Forms.{rule, seq}
 use Rattle.alg_reader.specs.Grammar.{grammar, word, zero}
 use Rattle.alg_reader.specs.Meaning.{act}
-use Rattle.alg_reader.proofs.Laws.{takes_seq, takes_some, takes_none}
+use Rattle.alg_reader.proofs.ReadSequences.{takes_seq}
+use Rattle.alg_reader.proofs.ReadChoices.{takes_some, takes_none}
 use Rattle.alg_reader.proofs.Failing.{passed_statement, fails_second, fails_some}
 use Rattle.alg_reader.proofs.Leaves.{taken, starts_seq, lacks_seq}
 use Rattle.alg_reader.proofs.Sequences.{owes_rule, owes_less, owes_fails, owes_token, fails_token}

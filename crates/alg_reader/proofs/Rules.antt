@@ -1,0 +1,215 @@
+-- What each rule makes of what its parts mean.
+use Rattle.std.proofs.Common.{◌≡◌, ◌≤◌, ◌<◌, ℕ, ◌+◌, ◌⊎◌, inl, inr, Bool, true, false, List, [], ◌∷◌, ◌++◌, length, refl, ap, sym, ◌∙◌, subst, arith, append_assoc, append-nil, length-append, ℤ, pos, negsuc, ◌≤ℤ◌}
+use Rattle.std.specs.List.{AllByRecursion}
+use Rattle.alg_tokens.specs.declared.token.Token.{Token}
+use Rattle.alg_tokens.specs.declared.token.TokenKind.{TokenKind}
+use Rattle.alg_tokens.specs.declared.token.TokenKind.TheVariants as kinds
+use Rattle.alg_tokens.specs.declared.token.Sign.{Sign}
+use Rattle.alg_tokens.specs.declared.token.Sign.TheVariants as signs
+use Rattle.alg_tokens.specs.declared.token.Word.{Word}
+use Rattle.alg_tokens.specs.declared.token.Word.TheVariants as words
+use Rattle.alg_tokens.specs.Pieces.{Spells}
+use Rattle.alg_tokens.specs.Next.{IsWithinMax}
+use Rattle.alg_terms.specs.declared.limits.TheConstants.{MAX_LITERAL}
+use Rattle.alg_terms.specs.Kinds.{IsDomain}
+use Rattle.alg_reader.specs.declared.raw.RawNode.TheVariants.{Var, Int, Neg, Add, Sub, Mul, Div, Pow, Hom}
+use Rattle.alg_reader.specs.declared.raw.RawNode.TheOpen.{RawNode-F}
+use Rattle.alg_reader.specs.declared.raw.RawTerm.{RawTerm}
+use Rattle.alg_reader.specs.declared.raw.RawNumber.{RawNumber}
+use Rattle.alg_reader.specs.declared.raw.RawUse.{RawUse}
+use Rattle.alg_reader.specs.declared.raw.Span.{Span}
+use Rattle.alg_reader.specs.declared.raw.RawMethod.{RawMethod}
+use Rattle.alg_reader.specs.declared.raw.RawMethod.TheVariants as methods
+use Rattle.alg_reader.specs.declared.raw.RawKind.{RawKind}
+use Rattle.alg_reader.specs.declared.raw.RawKind.TheVariants as raws
+use Rattle.alg_reader.specs.Kinds.{variant, code}
+use Rattle.alg_reader.specs.Forms as rules
+use Rattle.alg_reader.specs.Forms.{Rule, Form, a, seq, alt, opt, many, rule}
+use Rattle.alg_reader.specs.Grammar.{grammar, name, number, sign, inside, word, option, using, options, body}
+use Rattle.alg_reader.specs.Meaning.{Value, act_use, under, uses_after, uses_of, option_of, nsatz_of, one, two, nothing, term, used, method, at, span_of, number_of, numeral_of, joined, binary, chain, literal, variable, image, opposite, power_of, raised, named, leaf_one, leaf_two, act_sum, act_unary, act_power, act_leaf, is_unequal, sort_word, method_word}
+use Rattle.alg_reader.specs.RawTerms.{Node, fold_raw, names_in, literals_in, exponents_in}
+use Rattle.alg_reader.specs.WellRead.{IsNameAt, IsNumeral, IsOption, IsWellUse, IsWellMethod}
+use Rattle.alg_reader.proofs.Nodes.{name_at, number_at, chain_found, opposite_found, power_found, variable_found, image_found, literal_found}
+use Rattle.alg_reader.proofs.Built.{fold_raw-Var, fold_raw-Int, fold_raw-Neg, fold_raw-Add, fold_raw-Sub, fold_raw-Mul, fold_raw-Div, fold_raw-Pow, fold_raw-Hom}
+use Rattle.alg_reader.proofs.Boundaries.{IsTokenAt}
+use Rattle.alg_reader.proofs.Variants.{is_name, is_numeral, is_paren, is_ring, is_field}
+use Rattle.alg_reader.proofs.Found.{all_of, all_cons, row, EachOf, IsRingUnless, IsFoundTerm, TermFound, Found}
+
+-- ---- the rules of terms
+
+-- a sum in parentheses
+inside_found : (text : List ℕ) (x : Value) (ts : List Token) → ((y : Value) (us : List Token)
+    → Found text (rule rules.Sum) y us → TermFound text y) → Found text (inside (rule rules.Sum)) x ts
+    → (p : Token) × (q : Token) × (t : RawTerm) × (p.kind ≡ kinds.Sign signs.ParenLeft)
+    × (x ≡ two (one p) (two (term t) (one q))) × IsFoundTerm text t
+inside_found text x ts is (y, z, us, vs, e, _, (p, ep, _, kp, _), (v, w, us', vs', e', _, h, (q, eq, _, _, _))) =
+    let (t, et, f) = is v us' h in (
+      p,
+      q,
+      t,
+      is_paren p.kind kp,
+      e ∙ ap (λ v. two v z) ep ∙ ap (two (one p)) (e' ∙ ap (λ v. two v w) et ∙ ap (two (term t)) eq),
+      f,
+    )
+
+pub unary_found : (text : List ℕ) (x : Value) (ts : List Token) → Found text (alt (seq (sign signs.Minus)
+    (rule rules.Unary)) (rule rules.Power)) x ts → TermFound text (act_unary x)
+unary_found text x ts (inl (y, z, us, vs, e, _, (m, em, _, _, _), (t, et, f))) =
+    let P : Value → Type 0 = λ v. TermFound text (act_unary v) in
+    subst P (sym (e ∙ ap (λ v. two v z) em ∙ ap (two (one m)) et)) (
+      opposite m.start t,
+      refl,
+      opposite_found text m.start t f,
+    )
+unary_found text x ts (inr (t, et, f)) = let P : Value → Type 0 = λ v. TermFound text (act_unary v) in
+    subst P (sym et) (t, refl, f)
+
+pub power_rule_found : (text : List ℕ) (x : Value) (ts : List Token) → Found text (seq (rule rules.Leaf) (opt (seq
+    (sign signs.Caret) number))) x ts → TermFound text (act_power x)
+power_rule_found text x ts (y, z, us, vs, e, _, (t, et, f), inl (ez, _)) =
+    let P : Value → Type 0 = λ v. TermFound text (act_power v) in
+    subst P (sym (e ∙ ap (λ v. two v z) et ∙ ap (two (term t)) ez)) (t, refl, f)
+power_rule_found text x ts (y, z, us, vs, e, _, (t, et, f), inr (v, w, us', vs', e', _, (c, ec, _, _, _), h)) =
+    let (n, en, range, _, _) = number_at text w vs' h in
+    let P : Value → Type 0 = λ v. TermFound text (act_power v) in
+    subst P (sym (e ∙ ap (λ v. two v z) et ∙ ap (two (term t)) (e' ∙ ap (λ v. two v w) ec ∙ ap (two (one c)) en)))
+    (power_of c t n, refl, power_found text c t n range f)
+
+-- what a name before parentheses, or alone, means
+named_found : (text : List ℕ) (n : Token) (z : Value) (ts : List Token) → ((y : Value) (us : List Token)
+    → Found text (rule rules.Sum) y us → TermFound text y) → variant kinds.Name ≡ code n → IsTokenAt text n
+    → Found text (opt (inside (rule rules.Sum))) z ts → TermFound text (named n z)
+named_found text n z ts is k here (inl (ez, _)) = let P : Value → Type 0 = λ v. TermFound text (named n v) in
+    subst P (sym ez) (variable n, refl, variable_found text n (name_at text n k here))
+named_found text n z ts is k here (inr h) =
+    let (p, q, t, _, e, f) = inside_found text z ts is h in
+    let P : Value → Type 0 = λ v. TermFound text (named n v) in
+    subst P (sym e) (image n t, refl, image_found text n t (name_at text n k here) f)
+
+pub leaf_found : (text : List ℕ) (x : Value) (ts : List Token) → ((y : Value) (us : List Token)
+    → Found text (rule rules.Sum) y us → TermFound text y) → Found text (alt number (alt (seq name (opt (inside
+    (rule rules.Sum)))) (inside (rule rules.Sum)))) x ts → TermFound text (act_leaf x)
+leaf_found text x ts is (inl h) =
+    let (t, e, range, k, _) = number_at text x ts h in
+    let (n, kind) = is_numeral t.kind k in
+    let P : Value → Type 0 = λ v. TermFound text (act_leaf v) in
+    let Q : TokenKind → Type 0 = λ k. TermFound text (leaf_one t k) in
+    subst P (sym e) (subst Q (sym kind) (literal t, refl, literal_found text t range))
+leaf_found text x ts is (inr (inl (y, z, us, vs, e, _, (n, en, _, k, here), h))) =
+    let P : Value → Type 0 = λ v. TermFound text (act_leaf v) in
+    let Q : TokenKind → Type 0 = λ k. TermFound text (leaf_two n k z) in
+    subst P (sym (e ∙ ap (λ v. two v z) en)) (subst Q (sym (is_name n.kind k)) (named_found text n z vs is k here h))
+leaf_found text x ts is (inr (inr h)) =
+    let (p, q, t, paren, e, f) = inside_found text x ts is h in
+    let P : Value → Type 0 = λ v. TermFound text (act_leaf v) in
+    let Q : TokenKind → Type 0 = λ k. TermFound text (leaf_two p k (two (term t) (one q))) in
+    subst P (sym e) (subst Q (sym paren) (t, refl, f))
+
+-- ---- the words of statements
+
+pub equal_words : (kind : TokenKind) → variant (kinds.Sign signs.Equal) ≡ variant kind → is_unequal kind ≡ false
+equal_words kinds.Name h = refl
+equal_words (kinds.Word word) h = refl
+equal_words (kinds.Number value) h = refl
+equal_words kinds.End h = refl
+equal_words (kinds.Sign sign) h = elim sign as (λ s. variant (kinds.Sign signs.Equal) ≡ variant (kinds.Sign s)
+    → is_unequal (kinds.Sign s) ≡ false) [
+      | signs.NotEqual ↦ λ e. absurd (omega arith)
+      | signs.Dot ↦ λ e. refl
+      | _ ↦ λ e. refl
+    ] h
+
+no_ring : (variant (kinds.Word words.Domain) ≡ variant (kinds.Word words.Ring))
+    ⊎ (variant (kinds.Word words.Field) ≡ variant (kinds.Word words.Ring)) → ⊥
+no_ring (inl e) = absurd (omega arith)
+no_ring (inr e) = absurd (omega arith)
+
+pub domain_words : (kind : TokenKind) → (variant (kinds.Word words.Domain) ≡ variant kind)
+    ⊎ (variant (kinds.Word words.Field) ≡ variant kind) → IsDomain (sort_word kind)
+domain_words kinds.Name h = tt
+domain_words (kinds.Number value) h = tt
+domain_words kinds.End h = tt
+domain_words (kinds.Sign sign) h = tt
+domain_words (kinds.Word word) h = elim word as (λ w. (variant (kinds.Word words.Domain) ≡ variant (kinds.Word w))
+    ⊎ (variant (kinds.Word words.Field) ≡ variant (kinds.Word w)) → IsDomain (sort_word (kinds.Word w))) [
+      | words.Ring ↦ λ e. absurd (no_ring e)
+      | words.Domain ↦ λ e. tt
+      | words.Additive ↦ λ e. tt
+      | _ ↦ λ e. tt
+    ] h
+
+-- the word of a method that is not nsatz
+pub method_words : (w : Token) → (variant (kinds.Word words.Ring) ≡ code w) ⊎ (variant (kinds.Word words.Field) ≡ code w)
+    → IsRingUnless w (method_word w.kind)
+method_words w (inl h) = let P : TokenKind → Type 0 = λ k. method_word k ≡ methods.Ring in
+    inl (subst P (sym (is_ring w.kind h)) refl)
+method_words w (inr h) = inr (inl (is_field w.kind h))
+
+-- ---- uses
+
+pub use_found : (text : List ℕ) (x : Value) (ts : List Token) → Found text (seq name (opt (inside (rule rules.Use)))) x ts
+    → (u : RawUse) × (act_use x ≡ used u) × IsWellUse text u
+use_found text x ts (y, z, us, vs, e, _, (n, en, _, k, here), inl (ez, _)) = (
+  record { path = []; hyp = span_of n },
+  ap act_use (e ∙ ap (λ v. two v z) en ∙ ap (two (one n)) ez),
+  record { path = λ i d h. absurd (omega arith); hyp = name_at text n k here },
+)
+use_found text x ts (
+  y,
+  z,
+  us,
+  vs,
+  e,
+  _,
+  (n, en, _, k, here),
+  inr (
+    y',
+    z',
+    us',
+    vs',
+    e',
+    _,
+    (p, ep, _, _, _),
+    (v, w, us'', vs'', e'', _, (u, eu, f), (q, eq, _, _, _)),
+  ),
+) = (
+  under (span_of n) u,
+  ap act_use (e ∙ ap (λ v. two v z) en ∙ ap (two (one n)) (e' ∙ ap (λ v. two v z') ep
+      ∙ ap (two (one p)) (e'' ∙ ap (λ v. two v w) eu ∙ ap (two (used u)) eq))),
+  record { path = all_cons (IsNameAt text) (span_of n) u.path (name_at text n k here) f.path; hyp = f.hyp },
+)
+
+more_found : (text : List ℕ) (xs : List Value) (ts : List Token) → EachOf (λ y us. Found text (seq (sign signs.Comma)
+    (rule rules.Use)) y us) xs ts → AllByRecursion (IsWellUse text) (uses_after (row xs))
+unfolding row uses_after
+more_found text [] ts each = tt
+more_found text (x ∷ xs) ts (us, vs, _, (y, z, us', vs', e, _, (c, ec, _, _, _), (u, eu, f)), each) =
+    let P : Value → Type 0 = λ v. AllByRecursion (IsWellUse text) (uses_after (two v (row xs))) in
+    subst P (sym (e ∙ ap (λ v. two v z) ec ∙ ap (two (one c)) eu)) (f, more_found text xs vs each)
+
+using_found : (text : List ℕ) (x : Value) (ts : List Token) → Found text using x ts
+    → AllByRecursion (IsWellUse text) (uses_of x)
+using_found text x ts (inl (e, _)) = let P : Value → Type 0 = λ v. AllByRecursion (IsWellUse text) (uses_of v) in
+    subst P (sym e) tt
+using_found text x ts (inr (y, z, us, vs, e, _, (w, ew, _, _, _), (v, r, us', vs', e', _, (u, eu, f), (xs, er, each)))) =
+    let P : Value → Type 0 = λ v. AllByRecursion (IsWellUse text) (uses_of v) in
+    subst P (sym (e ∙ ap (λ v. two v z) ew ∙ ap (two (one w)) (e' ∙ ap (λ v. two v r) eu ∙ ap (two (used u)) er)))
+    (f, more_found text xs vs' each)
+
+option_found : (text : List ℕ) (w : Word) (x : Value) (ts : List Token) → Found text (option w) x ts
+    → IsOption (option_of x)
+option_found text w x ts (inl (e, _)) = let P : Value → Type 0 = λ v. IsOption (option_of v) in subst P (sym e) tt
+option_found text w x ts (inr (y, z, us, vs, e, _, (o, eo, _, _, _), h)) =
+    let (n, en, range, _, _) = number_at text z vs h in
+    let P : Value → Type 0 = λ v. IsOption (option_of v) in
+    subst P (sym (e ∙ ap (λ v. two v z) eo ∙ ap (two (one o)) en)) (record { low = range.0; high = range.1 })
+
+pub options_found : (text : List ℕ) (x : Value) (ts : List Token) → Found text options x ts
+    → IsWellMethod text (nsatz_of x)
+options_found text x ts (y, z, us, vs, e, _, h, (v, w, us', vs', e', _, k, l)) =
+    let P : Value → Type 0 = λ v. IsWellMethod text (nsatz_of v) in
+    subst P (sym (e ∙ ap (two y) e')) (
+      all_of (IsWellUse text) (uses_of y) (using_found text y us h),
+      option_found text words.Power v us' k,
+      option_found text words.Limit w vs' l,
+    )

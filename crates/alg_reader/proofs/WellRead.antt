@@ -1,0 +1,197 @@
+-- What was read is well read.
+use Rattle.std.proofs.Common.{◌≡◌, ◌≢◌, ◌≤◌, ◌<◌, ℕ, ◌+◌, nat_lt, inl, inr, Bool, true, false, cond, List, [], ◌∷◌, ◌++◌, length, refl, ap, sym, ◌∙◌, subst, arith, Option, Some, None, is_none, pos, ◌≤ℤ◌, Ok}
+use Rattle.std.specs.List.{All, AllByRecursion}
+use Rattle.std.specs.Str.{IsUtf8, IsCharBoundary}
+use Rattle.std.proofs.lemmas.Bool.Decides.{nat_tests}
+use Rattle.std.proofs.lemmas.Int.{ints}
+use Rattle.std.proofs.lemmas.Str.{IsUtf8-drop, IsCharBoundary-end}
+use Rattle.alg_tokens.specs.declared.token.Token.{Token}
+use Rattle.alg_tokens.specs.declared.token.TokenKind.{TokenKind}
+use Rattle.alg_tokens.specs.declared.token.TokenKind.TheVariants as kinds
+use Rattle.alg_tokens.specs.declared.token.Word.TheVariants as words
+use Rattle.alg_terms.specs.declared.limits.TheConstants.{MAX_LITERAL}
+use Rattle.alg_reader.specs.declared.raw.RawNode.TheVariants.{Int}
+use Rattle.alg_reader.specs.declared.raw.RawTerm.{RawTerm}
+use Rattle.alg_reader.specs.declared.raw.RawEquation.{RawEquation}
+use Rattle.alg_reader.specs.declared.raw.RawMethod.{RawMethod}
+use Rattle.alg_reader.specs.declared.raw.RawMethod.TheVariants as methods
+use Rattle.alg_reader.specs.declared.raw.RawKind.{RawKind}
+use Rattle.alg_reader.specs.declared.raw.RawKind.TheVariants as raws
+use Rattle.alg_reader.specs.declared.reading.Raw.{Raw}
+use Rattle.alg_reader.specs.Forms.{Statement, rule}
+use Rattle.alg_reader.specs.Meaning.{Value, sort, hom, vars, hyp, goal, at as node_at, kind_value}
+use Rattle.alg_reader.specs.RawTerms.{fold_node, fold_raw, depth_of, names_in, literals_in, exponents_in}
+use Rattle.alg_reader.specs.TooDeep.{kept, kept_sides, kept_kind}
+use Rattle.alg_reader.specs.Tokens.{TokensTo, open_with, bar, GoesPast}
+use Rattle.alg_reader.specs.Statements.{end_of, StandsAt, IsRead}
+use Rattle.alg_reader.specs.WellRead.{IsWellTerm, IsWellEquation, IsWellKind, IsWellRead, members_in}
+use Rattle.alg_reader.specs.Laws.{StatementsAreWellRead}
+use Rattle.alg_reader.proofs.Boundaries.{IsTokenAt, tokens_at, tokens_long}
+use Rattle.alg_reader.proofs.Held.{kept_whole}
+use Rattle.alg_reader.proofs.Found.{all_of, IsFoundTerm, IsRingUnless, IsFoundKind, IsSpelledKind}
+use Rattle.alg_reader.proofs.Derivations.{found}
+
+-- ---- what is kept of terms
+
+zero_well : (text : List ℕ) (head : ℕ) → IsWellTerm text (node_at head (Int (pos 0)))
+unfolding fold_raw fold_node
+zero_well text head = record {
+  names = λ k d h. absurd (omega arith);
+  literals = all_of (λ n. (pos 0 ≤ℤ n) × (n ≤ℤ MAX_LITERAL)) (pos 0 ∷ []) ((omega (arith, ints), omega (arith, ints)), tt);
+  exponents = λ k d h. absurd (omega arith);
+  depth = omega arith;
+}
+
+term_well : (text : List ℕ) (t : RawTerm) → depth_of t ≤ 1000 → IsFoundTerm text t → IsWellTerm text t
+term_well text t shallow h = record {
+  names = all_of _ (names_in t) h.names;
+  literals = all_of _ (literals_in t) h.literals;
+  exponents = all_of _ (exponents_in t) h.exponents;
+  depth = shallow;
+}
+
+kept_well : (text : List ℕ) (t : RawTerm) → IsFoundTerm text t → IsWellTerm text (kept t)
+kept_well text t h = elim (nat_lt 1000 (depth_of t)) as (λ b. nat_lt 1000 (depth_of t) ≡ b
+    → IsWellTerm text (cond b (node_at t.head (Int (pos 0))) t)) [
+      | true ↦ λ _. zero_well text t.head
+      | false ↦ λ e. term_well text t (grind (arith, nat_tests)) h
+    ] refl
+
+kind_well : (text : List ℕ) (kind : RawKind) → IsFoundKind text kind → IsWellKind text (kept_kind kind)
+kind_well text raws.End h = absurd h
+kind_well text (raws.Sort kind name char0) h = h
+kind_well text (raws.Hom name from to) h = h
+kind_well text (raws.Vars names of) h = (h.0, all_of _ names h.1, h.2)
+kind_well text (raws.Hyp name e) h = (
+  h.0,
+  record { left = kept_well text e.left h.1; right = kept_well text e.right h.2 },
+)
+kind_well text (raws.Goal e way place) h = (
+  record { left = kept_well text e.left h.0; right = kept_well text e.right h.1 },
+  h.2,
+  h.3,
+)
+
+-- ---- one meaning
+
+kind_of : Value → RawKind
+kind_of (sort kind name char0) = raws.Sort kind name char0
+kind_of (hom name from to) = raws.Hom name from to
+kind_of (vars names of) = raws.Vars names of
+kind_of (hyp name e) = raws.Hyp name e
+kind_of (goal e way place) = raws.Goal e way place
+kind_of _ = raws.End
+
+kind_again : (kind : RawKind) → kind_of (kind_value kind) ≡ kind
+unfolding kind_of
+kind_again raws.End = refl
+kind_again (raws.Sort kind name char0) = refl
+kind_again (raws.Hom name from to) = refl
+kind_again (raws.Vars names of) = refl
+kind_again (raws.Hyp name e) = refl
+kind_again (raws.Goal e way place) = refl
+
+-- what two statements mean is one, so they are one
+pub one_kind : (kind other : RawKind) → kind_value kind ≡ kind_value other → kind ≡ other
+one_kind kind other e = sym (kind_again kind) ∙ ap kind_of e ∙ kind_again other
+
+-- ---- the method
+
+past_at : (depth : ℕ) (last : Option TokenKind) (front : List Token) (b w : Token) (back : List Token)
+    → GoesPast depth last (front ++ b ∷ w ∷ back) → (d : ℕ) × (bar d (Some b.kind) w.kind ≡ None)
+past_at depth last [] b w back past = (open_with depth b.kind, past.1.0)
+past_at depth last (t ∷ front) b w back past = past_at (open_with depth t.kind) (Some t.kind) front b w back past.1
+
+barred : (d : ℕ) (b w : TokenKind) (k : TokenKind) → b ≡ kinds.Word words.By → w ≡ k
+    → bar d (Some (kinds.Word words.By)) k ≡ Some 20 → bar d (Some b) w ≡ None → ⊥
+barred d b w k by is stops free =
+    let here : bar d (Some b) w ≡ Some 20 = ap (λ x. bar d (Some x) w) by ∙ ap (bar d (Some (kinds.Word words.By))) is
+    ∙ stops in
+    let clash = ap (λ r. is_none r) (sym here ∙ free) in
+    cc
+
+-- behind `by` reading stops at all words but `ring`
+is_ring : (w : Token) (way : RawMethod) (d : ℕ) (b : TokenKind) → b ≡ kinds.Word words.By
+    → bar d (Some b) w.kind ≡ None → IsRingUnless w way → way ≡ methods.Ring
+is_ring w way d b by free (inl ring) = ring
+is_ring w way d b by free (inr (inl field)) = absurd (barred d b w.kind (kinds.Word words.Field) by field refl free)
+is_ring w way d b by free (inr (inr nsatz)) = absurd (barred d b w.kind (kinds.Word words.Nsatz) by nsatz refl free)
+
+way_is_ring : (e : RawEquation) (way : RawMethod) (place : ℕ) (ts : List Token) → GoesPast 0 None ts
+    → IsSpelledKind (raws.Goal e way place) ts → way ≡ methods.Ring
+way_is_ring e way place ts past (front, b, w, back, same, by, ring) =
+    let (d, free) = past_at 0 None front b w back (subst (GoesPast 0 None) same past) in
+    is_ring w way d b.kind by free ring
+
+method_of : RawKind → RawMethod
+method_of (raws.Goal e way place) = way
+method_of _ = methods.Ring
+
+kept_ring : (kind : RawKind) (ts : List Token) → GoesPast 0 None ts → IsSpelledKind kind ts
+    → method_of (kept_kind kind) ≡ methods.Ring
+unfolding method_of
+kept_ring raws.End ts past h = refl
+kept_ring (raws.Sort kind name char0) ts past h = refl
+kept_ring (raws.Hom name from to) ts past h = refl
+kept_ring (raws.Vars names of) ts past h = refl
+kept_ring (raws.Hyp name e) ts past h = refl
+kept_ring (raws.Goal e way place) ts past h = way_is_ring e way place ts past h
+
+goal_method : (kind : RawKind) (e : RawEquation) (way : RawMethod) (place : ℕ) → kind ≡ raws.Goal e way place
+    → method_of kind ≡ methods.Ring → way ≡ methods.Ring
+unfolding method_of
+goal_method kind e way place is ring = sym (ap method_of is) ∙ ring
+
+-- ---- how long a statement is
+
+few_members : (kind : RawKind) (ts : List Token) → 1 ≤ length ts → GoesPast 0 None ts → IsSpelledKind kind ts
+    → members_in (kept_kind kind) ≤ length ts
+few_members raws.End ts some past h = some
+few_members (raws.Sort kind name char0) ts some past h = some
+few_members (raws.Hom name from to) ts some past h = some
+few_members (raws.Vars names of) ts some past h = h
+few_members (raws.Hyp name e) ts some past h = some
+few_members (raws.Goal e way place) ts some past h =
+    let P : RawMethod → Type 0 = λ m. members_in (raws.Goal (kept_sides e) m place) ≤ length ts in
+    subst P (sym (way_is_ring e way place ts past h)) some
+
+-- ---- all of it
+
+stands_well : (text : List ℕ) (at : ℕ) (raw : Raw) → IsUtf8 text → IsCharBoundary text at → StandsAt text at raw
+    → IsWellRead text at raw
+stands_well text at raw u boundary (first, more, to, past, start, (kind, (v, fits, spells, means), (keeps, _))) =
+    let ts = first ∷ more in
+    let (all, stops) = tokens_at text at raw.stop ts boundary.0 (IsUtf8-drop text at u boundary) to in
+    let (k, e, here, spelled) = found text (rule Statement) v fits (subst (AllByRecursion (IsTokenAt text))
+    (sym spells) all) in
+    let same : k ≡ kind = one_kind k kind (sym e ∙ means) in
+    let parts : IsFoundKind text kind = subst (IsFoundKind text) same here in
+    let P : RawKind → Type 0 = λ x. IsSpelledKind x ts in
+    let written : IsSpelledKind kind ts = subst P same (subst (IsSpelledKind k) spells spelled) in
+    let length_of = tokens_long text first.stop raw.stop more to.2 in
+    let members = few_members kind ts (omega arith) past written in
+    let some = all.0.some in
+    let counts : members_in raw.kind ≡ members_in (kept_kind kind) = ap members_in keeps in
+    record {
+      kind = subst (IsWellKind text) (sym keeps) (kind_well text kind parts);
+      starts = let from = to.0.0.0 in omega arith;
+      stops = stops;
+      long = λ _. omega arith;
+      by_ring = λ e way place is. goal_method (kept_kind kind) e way place (sym keeps ∙ is)
+          (kept_ring kind ts past written);
+    }
+
+end_well : (text : List ℕ) (at : ℕ) → at ≤ length text
+    → IsWellRead text at (record { kind = raws.End; start = length text; stop = length text; too_deep = None })
+end_well text at within = record {
+  kind = tt;
+  starts = within;
+  stops = IsCharBoundary-end text;
+  long = λ other. absurd (other refl);
+  by_ring = λ e way place is. cc;
+}
+
+pub well_read : StatementsAreWellRead
+unfolding IsRead
+well_read text at raw u boundary (inl (next, is)) = subst (IsWellRead text at) (sym is) (end_well text at boundary.0)
+well_read text at raw u boundary (inr stands) = stands_well text at raw u boundary stands

@@ -1,0 +1,11 @@
+-- Laws of reading.
+use Rattle.std.specs.Prelude.{◌≡◌, ◌≢◌, ℕ, List, Result, Ok, Err}
+use Rattle.std.specs.Str.{IsUtf8, IsCharBoundary}
+use Rattle.alg_reader.specs.declared.reading.Raw.{Raw}
+use Rattle.alg_reader.specs.Statements.{IsRead}
+use Rattle.alg_reader.specs.WellRead.{IsWellRead}
+
+-- whatever is read of a text, where it may be cut, is well read
+abbrev pub StatementsAreWellRead : Type 0
+StatementsAreWellRead = (text : List ℕ) (at : ℕ) (raw : Raw) → IsUtf8 text → IsCharBoundary text at
+    → IsRead text at (Ok raw) → IsWellRead text at raw

@@ -1,0 +1,9 @@
+//! Laws of reading. Each is a function whose contract is the law.
+
+ghost use Rattle.alg_reader.specs.Laws.{StatementsAreWellRead};
+
+/// Whatever is read of a text is well read: its names are names of the text, its numbers in range,
+/// and no term too deep.
+pub fn statements_are_well_read()
+    ensures { StatementsAreWellRead }
+{}
