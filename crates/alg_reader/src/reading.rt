@@ -1,10 +1,11 @@
 //! One statement of a text.
 
-ghost use Rattle.std.specs.Prelude.{◌≡◌, ◌≤◌, ◌∷◌, ◌++◌, [], ℕ, List, length};
+ghost use Rattle.std.specs.Prelude.{◌≡◌, ◌≤◌, ◌∷◌, ◌++◌, [], ℕ, List, length, IfOk};
 ghost use Rattle.std.specs.Str.{IsCharBoundary};
 ghost use Rattle.alg_tokens.specs.declared.token.Token.{Token};
 ghost use Rattle.alg_reader.specs.Statements.{IsRead};
 ghost use Rattle.alg_reader.specs.Tokens.{refusal};
+ghost use Rattle.alg_reader.specs.WellRead.{IsWellRead};
 
 use crate::cursor::{Cursor, Fault};
 use crate::parts::Said;
@@ -61,7 +62,8 @@ impl From<AllocError> for FileEnd {
 pub fn read_statement(alloc: Global, text: &str, at: u32, _place: Place) -> Result<Raw, FileEnd>
     requires size { length text.now ≤ 16777216 }
     requires boundary { IsCharBoundary text.now at }
-    ensures { IsRead text.now at result }
+    ensures read { IsRead text.now at result }
+    ensures well_read { IfOk result (IsWellRead text.now at) }
 {
     let cut = cut_statement(alloc, text, at)?;
     let fault = cut.fault;

@@ -8,12 +8,13 @@ use Rattle.alg_reader.specs.declared.cursor.Fault.TheVariants.{Unexpected}
 use Rattle.alg_tokens.specs.declared.token.TokenKind.TheVariants as kinds
 use Rattle.alg_reader.proofs.Chains.{empty_below_one}
 use Rattle.alg_reader.proofs.Outcomes.{no_memory, passed_no_memory, read_end, read_ok, read_refused}
+use Rattle.alg_reader.proofs.WellRead.{well_read}
 use Rattle.alg_reader.proofs.reading.read_statement.Goals as goal
 use Rattle.alg_reader.proofs.reading.read_statement.Goals.{else-is_empty-via-then-is_empty+else-fault-eq-ENDS, else-is_empty-via-else-is_empty}
 
 -- the tokens are a statement
-pub returns-in-Ok : goal.returns-in-Ok
-returns-in-Ok c =
+pub returns-in-Ok-clause-read : goal.returns-in-Ok-clause-read
+returns-in-Ok-clause-read c =
     let tokens = c.in_ok-cut.cut.tokens.items in
     let fault = c.in_ok-cut.cut.fault in
     let e : Token = record { kind = kinds.End; start = fault.at; stop = fault.at } in
@@ -26,9 +27,13 @@ returns-in-Ok c =
     (λ u us e. c.ends_of-start.ensures.start u us (c.deref.ensures.value ∙ e))
     (λ us u e. c.ends_of-start.ensures.stop us u (c.deref.ensures.value ∙ e))
 
+pub returns-in-Ok-clause-well_read : goal.returns-in-Ok-clause-well_read
+returns-in-Ok-clause-well_read c = well_read c.args.text.now c.args.at _ c.utf8.text c.requires.boundary
+    (returns-in-Ok-clause-read c)
+
 -- the grammar is stuck
-pub returns : goal.returns
-returns c =
+pub returns-clause-read : goal.returns-clause-read
+returns-clause-read c =
     let tokens = c.in_ok-cut.cut.tokens.items in
     let fault = c.in_ok-cut.cut.fault in
     let e : Token = record { kind = kinds.End; start = fault.at; stop = fault.at } in
@@ -51,15 +56,15 @@ returns c =
     some (subst P whole stops))
 
 -- there is no memory for the tokens, or for what they say
-pub returns-in_err-cut : goal.returns-in_err-cut
-returns-in_err-cut c = passed_no_memory c.args.text.now c.args.at c.from_residual.result c.from_residual.ensures.1
+pub returns-in_err-cut-clause-read : goal.returns-in_err-cut-clause-read
+returns-in_err-cut-clause-read c = passed_no_memory c.args.text.now c.args.at c.from_residual.result c.from_residual.ensures.1
 
-pub returns-in-Err-NoMemory : goal.returns-in-Err-NoMemory
-returns-in-Err-NoMemory c = no_memory c.args.text.now c.args.at
+pub returns-in-Err-NoMemory-clause-read : goal.returns-in-Err-NoMemory-clause-read
+returns-in-Err-NoMemory-clause-read c = no_memory c.args.text.now c.args.at
 
 -- the text ends
-pub returns-then-fault-eq-ENDS : goal.returns-then-fault-eq-ENDS
-returns-then-fault-eq-ENDS c =
+pub returns-then-fault-eq-ENDS-clause-read : goal.returns-then-fault-eq-ENDS-clause-read
+returns-then-fault-eq-ENDS-clause-read c =
     let tokens = c.in_ok-cut.cut.tokens.items in
     let few : length tokens < 1 = let empty = c.if-is_empty.ensures in grind (arith, nat_tests) in
     read_end c.args.text.now c.args.at tokens c.in_ok-cut.cut.fault (empty_below_one tokens few) c.in_ok-cut.ensures
