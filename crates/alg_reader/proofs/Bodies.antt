@@ -15,24 +15,24 @@ use Rattle.alg_reader.specs.Reading.{begins, rule_begins, Starts, Lacks, ReadsSt
 use Rattle.alg_reader.proofs.Ahead.{Disjoint}
 use Rattle.alg_reader.proofs.Choices.{left_kept, right_kept}
 
-ring_apart : Disjoint (begins (rule Ring)) (begins (alt (rule Sort) (alt (rule Hom) (alt (rule Vars) (alt
+pub ring_apart : Disjoint (begins (rule Ring)) (begins (alt (rule Sort) (alt (rule Hom) (alt (rule Vars) (alt
     (rule Hyp) (rule Goal))))))
 unfolding rule_begins
 ring_apart n h h' = grind arith
 
-sort_apart : Disjoint (begins (rule Sort)) (begins (alt (rule Hom) (alt (rule Vars) (alt (rule Hyp) (rule Goal)))))
+pub sort_apart : Disjoint (begins (rule Sort)) (begins (alt (rule Hom) (alt (rule Vars) (alt (rule Hyp) (rule Goal)))))
 unfolding rule_begins
 sort_apart n h h' = grind arith
 
-hom_apart : Disjoint (begins (rule Hom)) (begins (alt (rule Vars) (alt (rule Hyp) (rule Goal))))
+pub hom_apart : Disjoint (begins (rule Hom)) (begins (alt (rule Vars) (alt (rule Hyp) (rule Goal))))
 unfolding rule_begins
 hom_apart n h h' = grind arith
 
-vars_apart : Disjoint (begins (rule Vars)) (begins (alt (rule Hyp) (rule Goal)))
+pub vars_apart : Disjoint (begins (rule Vars)) (begins (alt (rule Hyp) (rule Goal)))
 unfolding rule_begins
 vars_apart n h h' = grind arith
 
-hyp_apart : Disjoint (begins (rule Hyp)) (begins (rule Goal))
+pub hyp_apart : Disjoint (begins (rule Hyp)) (begins (rule Goal))
 unfolding rule_begins
 hyp_apart n h h' = grind arith
 

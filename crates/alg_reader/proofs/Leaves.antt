@@ -59,7 +59,7 @@ lacks_seq f g ts full s = (s.0, s.1, s.2, or_falses _ _ s.3 (rw full refl))
 
 -- ---- unary
 
-unary_apart : Disjoint (begins (seq (a (kinds.Sign signs.Minus)) (rule Unary))) (begins (rule Power))
+pub unary_apart : Disjoint (begins (seq (a (kinds.Sign signs.Minus)) (rule Unary))) (begins (rule Power))
 unfolding rule_begins
 unary_apart n h h' = grind arith
 
@@ -98,7 +98,7 @@ fails_unsigned ts e s h = fails_rule Unary ts e (fails_right (seq (a (kinds.Sign
 
 -- ---- power
 
-power_apart : Disjoint (goes_on (rule Leaf)) (begins (opt (seq (a (kinds.Sign signs.Caret)) number)))
+pub power_apart : Disjoint (goes_on (rule Leaf)) (begins (opt (seq (a (kinds.Sign signs.Caret)) number)))
 unfolding rule_goes_on
 power_apart n h h' = grind arith
 
@@ -173,7 +173,7 @@ sum_tree = (
   ),
 )
 
-close_apart : Disjoint (goes_on (rule Sum)) (begins (a (kinds.Sign signs.ParenRight)))
+pub close_apart : Disjoint (goes_on (rule Sum)) (begins (a (kinds.Sign signs.ParenRight)))
 unfolding rule_goes_on
 close_apart n h h' = grind arith
 
@@ -225,11 +225,11 @@ fails_close ts mid mid' p t e h k l =
 
 -- ---- leaf
 
-number_apart : Disjoint (begins number) (begins (alt (seq (a kinds.Name) (opt (parens (rule Sum)))) (parens
+pub number_apart : Disjoint (begins number) (begins (alt (seq (a kinds.Name) (opt (parens (rule Sum)))) (parens
     (rule Sum))))
 number_apart n h h' = grind arith
 
-name_apart : Disjoint (begins (seq (a kinds.Name) (opt (parens (rule Sum))))) (begins (parens (rule Sum)))
+pub name_apart : Disjoint (begins (seq (a kinds.Name) (opt (parens (rule Sum))))) (begins (parens (rule Sum)))
 name_apart n h h' = grind arith
 
 leaf_of_number : (t : Token) (k : TokenKind) → (value : ℤ) × (k ≡ kinds.Number value) → leaf_one t k ≡ term (literal t)
@@ -326,7 +326,7 @@ or_parts : (x y : Bool) → (x || y) ≡ false → (x ≡ false) × (y ≡ false
 or_parts true y h = cc
 or_parts false y h = (refl, h)
 
-numeral_apart : Disjoint (begins zero) (begins (a (kinds.Number (pos 1))))
+pub numeral_apart : Disjoint (begins zero) (begins (a (kinds.Number (pos 1))))
 numeral_apart n h h' = grind arith
 
 -- one of the two kinds of numerals

@@ -23,4 +23,6 @@ pub mod Nodes
 pub mod Rules
 pub mod Derivations
 pub mod WellRead
+pub mod Unique
+pub mod OneOutcome
 pub mod Outcomes

@@ -19,7 +19,7 @@ use Rattle.alg_reader.proofs.Leaves.{starts_seq, lacks_seq}
 use Rattle.alg_reader.proofs.Sequences.{owes_rule, owes_token, fails_token, token_apart}
 use Rattle.alg_reader.proofs.Trees.{some_tree}
 
-use_then_close : Disjoint (goes_on (rule Use)) (begins (a (kinds.Sign signs.ParenRight)))
+pub use_then_close : Disjoint (goes_on (rule Use)) (begins (a (kinds.Sign signs.ParenRight)))
 unfolding rule_goes_on
 use_then_close n h h' = grind arith
 
@@ -93,7 +93,7 @@ pub comma_apart : Disjoint (goes_on (seq (a (kinds.Sign signs.Comma)) (rule Use)
 unfolding rule_goes_on
 comma_apart n h h' = grind arith
 
-use_then_comma : Disjoint (goes_on (rule Use)) (begins (many (seq (a (kinds.Sign signs.Comma)) (rule Use))))
+pub use_then_comma : Disjoint (goes_on (rule Use)) (begins (many (seq (a (kinds.Sign signs.Comma)) (rule Use))))
 unfolding rule_goes_on
 use_then_comma n h h' = grind arith
 

@@ -30,12 +30,12 @@ use Rattle.alg_reader.proofs.Places.{split_end, split_token, tokens_split, past_
 -- ---- the outcome
 
 -- where no dot was, none is
-dot_in : (front after : List Token) (d : Token) → d.kind ≡ kinds.Sign signs.Dot → HasNoDot (front ++ d ∷ after) → ⊥
+pub dot_in : (front after : List Token) (d : Token) → d.kind ≡ kinds.Sign signs.Dot → HasNoDot (front ++ d ∷ after) → ⊥
 dot_in [] after d is (other, _) = other is
 dot_in (x ∷ front) after d is (_, clear) = dot_in front after d is clear
 
 -- the first dots of one list are one
-first_dot : (before front after back : List Token) (t d : Token) → HasNoDot before → HasNoDot front
+pub first_dot : (before front after back : List Token) (t d : Token) → HasNoDot before → HasNoDot front
     → t.kind ≡ kinds.Sign signs.Dot → d.kind ≡ kinds.Sign signs.Dot
     → before ++ t ∷ after ≡ front ++ d ∷ back → (before ≡ front) × (t ≡ d) × (after ≡ back)
 first_dot [] [] after back t d _ _ is so same = (refl, ap (λ us. head_or us t) same, ap (drop 1) same)
@@ -48,7 +48,7 @@ first_dot (x ∷ before) (y ∷ front) after back t d (_, clear) (_, none_here) 
     let (fore, one, rest) = first_dot before front after back t d clear none_here is so (ap (drop 1) same) in
     (ap (λ u. u ∷ before) first ∙ ap (λ us. y ∷ us) fore, one, rest)
 
-begun_front : (f : Form) (xs ys : List Token) → IsBegun f (xs ++ ys) → IsBegun f xs
+pub begun_front : (f : Form) (xs ys : List Token) → IsBegun f (xs ++ ys) → IsBegun f xs
 begun_front f xs ys (v, back, fits, e) = (v, ys ++ back, fits, e ∙ append_assoc xs ys back)
 
 -- stuck at a token: with it no statement begins

@@ -113,13 +113,23 @@ module _ (k l : TokenKind) (q r : Rule) (differ : variant k ≡ variant l
 
 -- ---- the two chains
 
-sum_apart : Disjoint (rule_goes_on Product) (begins (turn (kinds.Sign signs.Plus) (kinds.Sign signs.Minus) Product))
+pub sum_apart : Disjoint (rule_goes_on Product) (begins (turn (kinds.Sign signs.Plus) (kinds.Sign signs.Minus) Product))
 unfolding rule_goes_on
 sum_apart n h h' = grind arith
 
-product_apart : Disjoint (rule_goes_on Unary) (begins (turn (kinds.Sign signs.Star) (kinds.Sign signs.Slash) Unary))
+pub product_apart : Disjoint (rule_goes_on Unary) (begins (turn (kinds.Sign signs.Star) (kinds.Sign signs.Slash) Unary))
 unfolding rule_goes_on
 product_apart n h h' = grind arith
+
+pub sum_turn_apart : Disjoint (goes_on (turn (kinds.Sign signs.Plus) (kinds.Sign signs.Minus) Product)) (begins (turn
+    (kinds.Sign signs.Plus) (kinds.Sign signs.Minus) Product))
+unfolding rule_goes_on
+sum_turn_apart n h h' = grind arith
+
+pub product_turn_apart : Disjoint (goes_on (turn (kinds.Sign signs.Star) (kinds.Sign signs.Slash) Unary)) (begins (turn
+    (kinds.Sign signs.Star) (kinds.Sign signs.Slash) Unary))
+unfolding rule_goes_on
+product_turn_apart n h h' = grind arith
 
 sum_whole : grammar Sum ≡ seq (rule Product) (many (turn (kinds.Sign signs.Plus) (kinds.Sign signs.Minus) Product))
 unfolding grammar

@@ -2,6 +2,8 @@
 use Rattle.std.specs.Prelude.{◌≡◌, ◌≢◌, ℕ, List, Result, Ok, Err}
 use Rattle.std.specs.Str.{IsUtf8, IsCharBoundary}
 use Rattle.alg_reader.specs.declared.reading.Raw.{Raw}
+use Rattle.alg_reader.specs.declared.reading.FileEnd.{FileEnd}
+use Rattle.alg_reader.specs.declared.reading.FileEnd.TheVariants.{NoMemory}
 use Rattle.alg_reader.specs.Statements.{IsRead}
 use Rattle.alg_reader.specs.WellRead.{IsWellRead}
 
@@ -9,3 +11,8 @@ use Rattle.alg_reader.specs.WellRead.{IsWellRead}
 abbrev pub StatementsAreWellRead : Type 0
 StatementsAreWellRead = (text : List ℕ) (at : ℕ) (raw : Raw) → IsUtf8 text → IsCharBoundary text at
     → IsRead text at (Ok raw) → IsWellRead text at raw
+
+-- at each place of a text there is at most one statement, end or first fault
+abbrev pub OneOutcome : Type 0
+OneOutcome = (text : List ℕ) (at : ℕ) (one other : Result Raw FileEnd) → IsRead text at one → IsRead text at other
+    → one ≢ Err NoMemory → other ≢ Err NoMemory → one ≡ other

@@ -1,0 +1,270 @@
+-- At each place of a text there is at most one statement or first fault.
+use Rattle.std.proofs.Common.{◌≡◌, ◌≢◌, ℕ, List, [], ◌∷◌, ◌++◌, ◌⊎◌, inl, inr, length, length-append, refl, ap, sym, ◌∙◌, subst, arith, append_assoc, append-nil, Option, Some, None, is_none, unwrap_or, Result, Ok, Err}
+use Rattle.alg_tokens.specs.declared.token.Token.{Token}
+use Rattle.alg_tokens.specs.declared.token.Refusal.{Refusal}
+use Rattle.alg_tokens.specs.declared.token.TokenKind.{TokenKind}
+use Rattle.alg_tokens.specs.declared.token.TokenKind.TheVariants as kinds
+use Rattle.alg_tokens.specs.declared.token.Sign.TheVariants as signs
+use Rattle.alg_tokens.specs.Next.{IsNext}
+use Rattle.alg_tokens.proofs.Cuttings.{one_next}
+use Rattle.alg_reader.specs.declared.raw.RawKind.{RawKind}
+use Rattle.alg_reader.specs.declared.reading.Raw.{Raw}
+use Rattle.alg_reader.specs.declared.reading.FileEnd.{FileEnd}
+use Rattle.alg_reader.specs.declared.reading.FileEnd.TheVariants.{Refused, NoMemory}
+use Rattle.alg_reader.specs.Forms.{Statement, rule, Tree, spelled}
+use Rattle.alg_reader.specs.Grammar.{Fits, IsBegun}
+use Rattle.alg_reader.specs.Meaning.{value, kind_value}
+use Rattle.alg_reader.specs.TooDeep.{kept_kind, first_of_statement}
+use Rattle.alg_reader.specs.Tokens.{TokensTo, GoesPast, HasNoDot, Reaches, open_with, open_after, last_kind, bar}
+use Rattle.alg_reader.specs.Statements.{IsStatement, Keeps, end_of, IsEnd, StandsAt, StopsWith, FaultBehind, IsRead}
+use Rattle.alg_reader.specs.Laws.{OneOutcome}
+use Rattle.alg_reader.proofs.Places.{statement_dot}
+use Rattle.alg_reader.proofs.Outcomes.{dot_in, first_dot, begun_front}
+use Rattle.alg_reader.proofs.Unique.{one_tree}
+use Rattle.alg_reader.proofs.WellRead.{one_kind}
+
+-- ---- tokens from one place
+
+token_of : Result Token Refusal → Token → Token
+token_of (Ok t) other = t
+token_of (Err e) other = other
+
+-- the next token is one
+one_token : (text : List ℕ) (at : ℕ) (t u : Token) → IsNext text at (Ok t) → IsNext text at (Ok u) → t ≡ u
+unfolding token_of
+one_token text at t u h k = ap (λ r. token_of r t) (one_next text at (Ok t) (Ok u) h k)
+
+no_fault : (text : List ℕ) (at : ℕ) (t : Token) (e : Refusal) → IsNext text at (Ok t) → IsNext text at (Err e) → ⊥
+no_fault text at t e h k = let clash = one_next text at (Ok t) (Err e) h k in cc
+
+no_end : (text : List ℕ) (at : ℕ) (t : Token) → IsNext text at (Ok t) → t.kind ≢ kinds.End
+    → IsNext text at (Ok (end_of text)) → ⊥
+no_end text at t h lexeme k = lexeme (ap (λ u. u.kind) (one_token text at t (end_of text) h k))
+
+-- one list of tokens goes on behind the other
+abbrev GoesOn : List ℕ → List Token → ℕ → List Token → Type 0
+GoesOn text ts stop us = (t : Token) × (after : List Token) × (us ≡ ts ++ t ∷ after) × IsNext text stop (Ok t)
+    × (t.kind ≢ kinds.End)
+
+abbrev Compared : List ℕ → List Token → ℕ → List Token → ℕ → Type 0
+Compared text ts stop us stop' = ((ts ≡ us) × (stop ≡ stop')) ⊎ GoesOn text ts stop us ⊎ GoesOn text us stop' ts
+
+compared_more : (text : List ℕ) (t : Token) (ts : List Token) (stop : ℕ) (us : List Token) (stop' : ℕ)
+    → Compared text ts stop us stop' → Compared text (t ∷ ts) stop (t ∷ us) stop'
+compared_more text t ts stop us stop' (inl (same, place)) = inl (ap (λ xs. t ∷ xs) same, place)
+compared_more text t ts stop us stop' (inr (inl (u, after, e, next, lexeme))) =
+    inr (inl (u, after, ap (λ xs. t ∷ xs) e, next, lexeme))
+compared_more text t ts stop us stop' (inr (inr (u, after, e, next, lexeme))) =
+    inr (inr (u, after, ap (λ xs. t ∷ xs) e, next, lexeme))
+
+compare : (text : List ℕ) (at stop stop' : ℕ) (ts us : List Token) → TokensTo text at ts stop
+    → TokensTo text at us stop' → Compared text ts stop us stop'
+compare text at stop stop' [] [] e e' = inl (refl, sym e ∙ e')
+compare text at stop stop' [] (u ∷ us) e (next, lexeme, _) = let P : ℕ → Type 0 = λ n. IsNext text n (Ok u) in
+    inr (inl (u, us, refl, subst P e next, lexeme))
+compare text at stop stop' (t ∷ ts) [] (next, lexeme, _) e = let P : ℕ → Type 0 = λ n. IsNext text n (Ok t) in
+    inr (inr (t, ts, refl, subst P e next, lexeme))
+compare text at stop stop' (t ∷ ts) (u ∷ us) (next, _, to) (next', _, to') =
+    let same = one_token text at t u next next' in
+    let P : Token → Type 0 = λ x. TokensTo text x.stop us stop' in
+    let Q : Token → Type 0 = λ x. Compared text (t ∷ ts) stop (x ∷ us) stop' in
+    subst Q same (compared_more text t ts stop us stop' (compare text t.stop stop stop' ts us to
+    (subst P (sym same) to')))
+
+-- ---- no fault stands where reading goes on
+
+free_at : (depth : ℕ) (last : Option TokenKind) (before : List Token) (t : Token) (after : List Token)
+    → GoesPast depth last (before ++ t ∷ after) → bar (open_after depth before) (last_kind last before) t.kind ≡ None
+free_at depth last [] t after past = past.0
+free_at depth last (b ∷ before) t after past = free_at (open_with depth b.kind) (Some b.kind) before t after past.1
+
+no_bar : (code : Option ℕ) (n : ℕ) → code ≡ None → code ≡ Some n → ⊥
+no_bar code n none some = let clash = ap (λ r. is_none r) (sym none ∙ some) in cc
+
+goes_on_there : (text : List ℕ) (before ts : List Token) (t : Token) (after : List Token) (stop : ℕ) (fault : Refusal)
+    → ts ≡ before ++ t ∷ after → IsNext text stop (Ok t) → t.kind ≢ kinds.End → GoesPast 0 None ts
+    → IsBegun (rule Statement) ts → FaultBehind text before stop fault → ⊥
+goes_on_there text before ts t after stop fault same next lexeme past begun (inl other) = no_fault text stop t fault next other
+goes_on_there text before ts t after stop fault same next lexeme past begun (inr (inl (ends, _, _))) =
+    no_end text stop t next lexeme ends
+goes_on_there text before ts t after stop fault same next lexeme past begun (inr (inr (u, other, _, _, inl (_, stuck)))) =
+    let one = one_token text stop t u next other in
+    let whole : ts ≡ (before ++ t ∷ []) ++ after = same ∙ sym (append_assoc before (t ∷ []) after) in
+    let here = begun_front (rule Statement) (before ++ t ∷ []) after (subst (IsBegun (rule Statement)) whole begun) in
+    let P : Token → Type 0 = λ x. IsBegun (rule Statement) (before ++ x ∷ []) in
+    stuck (subst P one here)
+goes_on_there text before ts t after stop fault same next lexeme past begun (inr (inr (u, other, _, _, inr (stops, _)))) =
+    let one = one_token text stop t u next other in
+    let free = free_at 0 None before t after (subst (GoesPast 0 None) same past) in
+    let P : Token → Type 0 = λ x. bar (open_after 0 before) (last_kind None before) x.kind ≡ None in
+    no_bar _ fault.code (subst P one free) stops
+
+-- ---- two statements
+
+-- a statement is no front of another
+no_front : (v w : Tree) (t : Token) (after : List Token) → Fits (rule Statement) v → Fits (rule Statement) w
+    → spelled w ≡ spelled v ++ t ∷ after → ⊥
+no_front v w t after h k e =
+    let (front, d, s, dot, clear) = statement_dot v h in
+    let (front', d', s', dot', clear') = statement_dot w k in
+    let whole : front ++ d ∷ (t ∷ after) ≡ front' ++ d' ∷ [] =
+    sym (append_assoc front (d ∷ []) (t ∷ after)) ∙ ap (λ xs. xs ++ t ∷ after) (sym s) ∙ sym e ∙ s' in
+    let (_, _, nothing_left) = first_dot front front' (t ∷ after) [] d d' clear clear' dot dot' whole in
+    let long = ap length nothing_left in
+    absurd (omega arith)
+
+same_raw : (raw other : Raw) → raw.kind ≡ other.kind → raw.start ≡ other.start → raw.stop ≡ other.stop
+    → raw.too_deep ≡ other.too_deep → raw ≡ other
+same_raw raw other k s e d =
+    ap (λ x. record { kind = x; start = raw.start; stop = raw.stop; too_deep = raw.too_deep }) k
+    ∙ ap (λ x. record { kind = other.kind; start = x; stop = raw.stop; too_deep = raw.too_deep }) s
+    ∙ ap (λ x. record { kind = other.kind; start = other.start; stop = x; too_deep = raw.too_deep }) e
+    ∙ ap (λ x. record { kind = other.kind; start = other.start; stop = other.stop; too_deep = x }) d
+
+first_or : List Token → Token → Token
+first_or [] t = t
+first_or (u ∷ us) t = u
+
+one_first : (t u : Token) (ts us : List Token) → t ∷ ts ≡ u ∷ us → t ≡ u
+unfolding first_or
+one_first t u ts us e = ap (λ xs. first_or xs t) e
+
+-- two statements of the same tokens
+one_meaning : (ts us : List Token) (kind other : RawKind) → ts ≡ us → IsStatement ts kind → IsStatement us other
+    → kind ≡ other
+one_meaning ts us kind other e (v, h, s, m) (w, k, s', m') =
+    let tree = one_tree v w h k (s ∙ e ∙ sym s') in
+    one_kind kind other (sym m ∙ ap value tree ∙ m')
+
+one_statement : (text : List ℕ) (at : ℕ) (raw other : Raw) → StandsAt text at raw → StandsAt text at other → raw ≡ other
+one_statement text at raw other (t, ts, to, past, start, (kind, (v, h, s, m), (keeps, deep)))
+    (u, us, to', past', start', (kind', (w, k, s', m'), (keeps', deep'))) =
+    elim (compare text at raw.stop other.stop (t ∷ ts) (u ∷ us) to to') [
+      | inl (same, place) ↦
+          let one = one_meaning (t ∷ ts) (u ∷ us) kind kind' same (v, h, s, m) (w, k, s', m') in
+          same_raw raw other (keeps ∙ ap kept_kind one ∙ sym keeps')
+          (start ∙ ap (λ x. x.start) (one_first t u ts us same) ∙ sym start') place
+          (deep ∙ ap first_of_statement one ∙ sym deep')
+      | inr (inl (x, after, e, _, _)) ↦ absurd (no_front v w x after h k (s' ∙ e ∙ ap (λ xs. xs ++ x ∷ after) (sym s)))
+      | inr (inr (x, after, e, _, _)) ↦ absurd (no_front w v x after k h (s ∙ e ∙ ap (λ xs. xs ++ x ∷ after) (sym s')))
+    ]
+
+-- ---- a statement or the end, and a fault
+
+-- where a statement stands is no fault
+statement_no_fault : (text : List ℕ) (at : ℕ) (raw : Raw) (fault : Refusal) → StandsAt text at raw
+    → IsRead text at (Err (Refused fault)) → ⊥
+unfolding IsRead
+statement_no_fault text at raw fault (t, ts, to, past, _, (kind, (v, h, s, _), _)) (before, stop, (to', _, clear), _, behind) =
+    let (front, d, spells, dot, _) = statement_dot v h in
+    let whole : t ∷ ts ≡ front ++ d ∷ [] = sym s ∙ spells in
+    elim (compare text at raw.stop stop (t ∷ ts) before to to') [
+      | inl (same, _) ↦ dot_in front [] d dot (subst HasNoDot (sym same ∙ whole) clear)
+      | inr (inl (x, after, e, _, _)) ↦ dot_in front (x ∷ after) d dot (subst HasNoDot (e ∙ ap (λ xs. xs ++ x ∷ after)
+          whole ∙ append_assoc front (d ∷ []) (x ∷ after)) clear)
+      | inr (inr (x, after, e, next, lexeme)) ↦
+          goes_on_there text before (t ∷ ts) x after stop fault e next lexeme past (
+            v,
+            [],
+            h,
+            s ∙ sym (append-nil
+                (t ∷ ts)),
+          ) behind
+    ]
+
+end_no_statement : (text : List ℕ) (at : ℕ) (raw other : Raw) → IsEnd text at raw → StandsAt text at other → ⊥
+end_no_statement text at raw other (ends, _) (t, ts, (next, lexeme, _), _, _, _) = no_end text at t next lexeme ends
+
+end_no_fault : (text : List ℕ) (at : ℕ) (raw : Raw) (fault : Refusal) → IsEnd text at raw
+    → IsRead text at (Err (Refused fault)) → ⊥
+unfolding IsRead
+end_no_fault text at raw fault (ends, _) ((t ∷ before), stop, ((next, lexeme, _), _, _), _, _) =
+    no_end text at t next lexeme ends
+end_no_fault text at raw fault (ends, _) ([], stop, (here, _, _), _, inl other) =
+    let P : ℕ → Type 0 = λ n. IsNext text n (Err fault) in no_fault text at (end_of text) fault ends (subst P (sym here) other)
+end_no_fault text at raw fault (ends, _) ([], stop, (here, _, _), _, inr (inl (_, some, _))) = some refl
+end_no_fault text at raw fault (ends, _) ([], stop, (here, _, _), _, inr (inr (t, next, lexeme, _, _))) =
+    let P : ℕ → Type 0 = λ n. IsNext text n (Ok t) in no_end text at t (subst P (sym here) next) lexeme ends
+
+-- ---- two faults
+
+some_same : (m n : ℕ) → Some m ≡ Some n → m ≡ n
+some_same m n e = ap (λ r. unwrap_or r m) e
+
+same_refusal : (one other : Refusal) → one.code ≡ other.code → one.at ≡ other.at → one ≡ other
+same_refusal one other c p = ap (λ x. record { code = x; at = one.at }) c
+    ∙ ap (λ x. record { code = other.code; at = x }) p
+
+fault_of : Result Token Refusal → Refusal → Refusal
+fault_of (Ok t) other = other
+fault_of (Err e) other = e
+
+one_refusal : (text : List ℕ) (at : ℕ) (one other : Refusal) → IsNext text at (Err one) → IsNext text at (Err other)
+    → one ≡ other
+unfolding fault_of
+one_refusal text at one other h k = ap (λ r. fault_of r one) (one_next text at (Err one) (Err other) h k)
+
+one_code : (before : List Token) (t : Token) (m n : ℕ) → StopsWith before t m → StopsWith before t n → m ≡ n
+one_code before t m n (inl (four, _)) (inl (four', _)) = four ∙ sym four'
+one_code before t m n (inl (_, stuck)) (inr (_, begun)) = absurd (stuck begun)
+one_code before t m n (inr (_, begun)) (inl (_, stuck)) = absurd (stuck begun)
+one_code before t m n (inr (stops, _)) (inr (stops', _)) = some_same m n (sym stops ∙ stops')
+
+one_fault : (text : List ℕ) (before : List Token) (stop : ℕ) (one other : Refusal) → FaultBehind text before stop one
+    → FaultBehind text before stop other → one ≡ other
+one_fault text before stop one other (inl h) (inl k) = one_refusal text stop one other h k
+one_fault text before stop one other (inl h) (inr (inl (k, _, _))) = absurd (no_fault text stop (end_of text) one k h)
+one_fault text before stop one other (inl h) (inr (inr (t, k, _, _, _))) = absurd (no_fault text stop t one k h)
+one_fault text before stop one other (inr (inl (h, _, _))) (inl k) = absurd (no_fault text stop (end_of text) other h k)
+one_fault text before stop one other (inr (inl (_, _, e))) (inr (inl (_, _, e'))) = e ∙ sym e'
+one_fault text before stop one other (inr (inl (h, _, _))) (inr (inr (t, k, lexeme, _, _))) =
+    absurd (no_end text stop t k lexeme h)
+one_fault text before stop one other (inr (inr (t, h, _, _, _))) (inl k) = absurd (no_fault text stop t other h k)
+one_fault text before stop one other (inr (inr (t, h, lexeme, _, _))) (inr (inl (k, _, _))) =
+    absurd (no_end text stop t h lexeme k)
+one_fault text before stop one other (inr (inr (t, h, _, place, stops))) (inr (inr (u, k, _, place', stops'))) =
+    let same = one_token text stop t u h k in
+    let P : Token → Type 0 = λ x. StopsWith before x other.code in
+    same_refusal one other (one_code before t one.code other.code stops (subst P (sym same) stops'))
+    (place ∙ ap (λ x. x.start) same ∙ sym place')
+
+two_faults : (text : List ℕ) (at : ℕ) (one other : Refusal) → IsRead text at (Err (Refused one))
+    → IsRead text at (Err (Refused other)) → one ≡ other
+unfolding IsRead
+two_faults text at one other (before, stop, (to, past, _), begun, behind) (before', stop', (to', past', _), begun', behind') =
+    elim (compare text at stop stop' before before' to to') [
+      | inl (same, place) ↦
+          let P : List Token → Type 0 = λ xs. FaultBehind text xs stop' other in
+          let Q : ℕ → Type 0 = λ n. FaultBehind text before n other in
+          one_fault text before stop one other behind (subst Q (sym place) (subst P (sym same) behind'))
+      | inr (inl (t, after, e, next, lexeme)) ↦
+          absurd (goes_on_there text before before' t after stop one e next lexeme past' begun' behind)
+      | inr (inr (t, after, e, next, lexeme)) ↦
+          absurd (goes_on_there text before' before t after stop' other e next lexeme past begun behind')
+    ]
+
+-- ---- one outcome
+
+two_statements : (text : List ℕ) (at : ℕ) (one other : Raw) → IsRead text at (Ok one) → IsRead text at (Ok other)
+    → one ≡ other
+unfolding IsRead
+two_statements text at one other (inl (_, e)) (inl (_, e')) = e ∙ sym e'
+two_statements text at one other (inl ends) (inr stands) = absurd (end_no_statement text at one other ends stands)
+two_statements text at one other (inr stands) (inl ends) = absurd (end_no_statement text at other one ends stands)
+two_statements text at one other (inr stands) (inr stands') = one_statement text at one other stands stands'
+
+no_both : (text : List ℕ) (at : ℕ) (raw : Raw) (fault : Refusal) → IsRead text at (Ok raw)
+    → IsRead text at (Err (Refused fault)) → ⊥
+unfolding IsRead
+no_both text at raw fault (inl ends) h = end_no_fault text at raw fault ends h
+no_both text at raw fault (inr stands) h = statement_no_fault text at raw fault stands h
+
+pub one_outcome : OneOutcome
+one_outcome text at (Err NoMemory) other h k some some' = absurd (some refl)
+one_outcome text at (Ok one) (Err NoMemory) h k some some' = absurd (some' refl)
+one_outcome text at (Err (Refused one)) (Err NoMemory) h k some some' = absurd (some' refl)
+one_outcome text at (Ok one) (Ok other) h k some some' = ap (λ r. Ok r) (two_statements text at one other h k)
+one_outcome text at (Ok one) (Err (Refused fault)) h k some some' = absurd (no_both text at one fault h k)
+one_outcome text at (Err (Refused fault)) (Ok other) h k some some' = absurd (no_both text at other fault k h)
+one_outcome text at (Err (Refused one)) (Err (Refused other)) h k some some' =
+    ap (λ e. Err (Refused e)) (two_faults text at one other h k)
