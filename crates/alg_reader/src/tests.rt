@@ -1,23 +1,35 @@
 //! Faults and statements of small texts.
 
-use crate::{FileEnd, Place, RawKind, read_statement};
+use crate::laws::{one_outcome, statements_are_well_read};
+use crate::{FileEnd, Place, Raw, RawKind, RawMethod, Span, read_statement};
 use alg_terms::Kind;
 use alg_tokens::Refusal;
+use std::alloc::AllocError;
 
-/// What is read at the front of a text: the bytes of the statement, or the code and the byte of the fault.
+/// What is read at the front of a text: the bytes of the statement with the head of its first too
+/// deep node, or the code and the byte of the fault.
 #[derive(Clone, Copy, PartialEq, Eq, Debug)]
 enum Found {
     Read(u32, u32),
+    Deep(u32),
     Fault(u8, u32),
     NoMemory,
 }
 
-fn first_found(rt: &HostRuntime, text: &str) -> Found {
+/// What is read at the front of a text that is not too long.
+fn read(rt: &HostRuntime, text: &str) -> Result<Raw, FileEnd> {
     if text.len() > 16_777_216 {
-        return Found::NoMemory;
+        return Err(FileEnd::NoMemory);
     }
-    match read_statement(rt.alloc(), text, 0, Place::Plain) {
-        Ok(raw) => Found::Read(raw.start, raw.stop),
+    read_statement(rt.alloc(), text, 0, Place::Plain)
+}
+
+fn first_found(rt: &HostRuntime, text: &str) -> Found {
+    match read(rt, text) {
+        Ok(raw) => match raw.too_deep {
+            Some(head) => Found::Deep(head),
+            None => Found::Read(raw.start, raw.stop),
+        },
         Err(FileEnd::Refused(Refusal { code, at })) => Found::Fault(code, at),
         Err(FileEnd::NoMemory) => Found::NoMemory,
     }
@@ -32,66 +44,274 @@ fn the_first_statement_or_fault(rt: HostRuntime) {
         ("ring R.", Found::Read(0, 7)),
         (" domain D char 0 . x", Found::Read(1, 18)),
         ("field F char 00.", Found::Read(0, 16)),
+        ("hom f : R -> S.", Found::Read(0, 15)),
         ("var x y : R.", Found::Read(0, 12)),
         ("goal (x + y)^2 = -x*f(y) by ring.", Found::Read(0, 33)),
-        ("ring R", Found::Fault(5, 6)),
-        ("ring R # .", Found::Fault(5, 10)),
-        ("ring ring.", Found::Fault(4, 5)),
-        ("ring R char 0.", Found::Fault(4, 7)),
-        ("domain D char 1.", Found::Fault(4, 14)),
-        ("var : R.", Found::Fault(4, 4)),
-        ("goal x = y by.", Found::Fault(4, 13)),
-        ("goal x = y = z by ring.", Found::Fault(4, 11)),
-        ("goal x^y = z by ring.", Found::Fault(4, 7)),
-        ("goal x <> y by ring.", Found::Fault(4, 7)),
-        ("goal 2x = y by ring.", Found::Fault(4, 6)),
+        // no token begins here, and a numeral over the greatest
         ("goal x = $.", Found::Fault(2, 9)),
-        ("goal x y = $.", Found::Fault(4, 7)),
+        ("goal x < y by ring.", Found::Fault(2, 7)),
+        (
+            "goal x = 170141183460469231731687303715884105727 by ring.",
+            Found::Read(0, 57),
+        ),
         (
             "goal x = 170141183460469231731687303715884105728.",
             Found::Fault(3, 9),
         ),
+        // no statement begins so
         (".", Found::Fault(4, 0)),
-        ("hom f : R -> S.", Found::Read(0, 15)),
+        ("ring ring.", Found::Fault(4, 5)),
+        ("ring R char 0.", Found::Fault(4, 7)),
+        ("domain D char 1.", Found::Fault(4, 14)),
+        ("hom f R -> S.", Found::Fault(4, 6)),
+        ("hom f : R - > S.", Found::Fault(4, 10)),
+        ("hom f : R -> S", Found::Fault(5, 14)),
+        ("var : R.", Found::Fault(4, 4)),
+        ("goal x = y by.", Found::Fault(4, 13)),
+        ("goal x = y = z by ring.", Found::Fault(4, 11)),
+        ("goal x^y = z by ring.", Found::Fault(4, 7)),
+        ("goal x^2^2 = z by ring.", Found::Fault(4, 8)),
+        ("goal x <> y by ring.", Found::Fault(4, 7)),
+        ("goal 2x = y by ring.", Found::Fault(4, 6)),
+        // the text ends inside a statement
+        ("ring R", Found::Fault(5, 6)),
+        ("ring R # .", Found::Fault(5, 10)),
+        // words that can't be read yet
         ("hyp H : x = y.", Found::Fault(20, 0)),
         ("goal x = y by field.", Found::Fault(20, 14)),
-        ("goal x = y by nsatz.", Found::Fault(20, 14)),
+        (
+            "goal x = y by nsatz using f(H) power 2.",
+            Found::Fault(20, 14),
+        ),
+        // of two faults the first, and a word that can't be read before all that follow it
+        ("goal x y = $.", Found::Fault(4, 7)),
+        ("goal $ y = z.", Found::Fault(2, 5)),
         ("goal x = y by nsatz $", Found::Fault(20, 14)),
+        ("goal x = $ by nsatz.", Found::Fault(2, 9)),
+        ("goal x y by nsatz.", Found::Fault(4, 7)),
+        ("hyp", Found::Fault(20, 0)),
+        ("goal x = hyp", Found::Fault(4, 9)),
         ("goal x = hom", Found::Fault(4, 9)),
     ] {
         assert!(rt; first_found(&rt, text) == want, "{text}");
     }
 }
 
+/// Each piece as often as it says, one after the other.
+fn text_of(rt: &HostRuntime, pieces: [(&'static str, u32); 5]) -> Result<String, AllocError> {
+    let mut text = String::new(rt.alloc());
+    for (piece, count) in pieces {
+        for _ in 0..count {
+            text.push_str(piece)?;
+        }
+    }
+    Ok(text)
+}
+
 #[test]
-fn two_hundred_parentheses(rt: HostRuntime) {
-    // Each row: how many are opened, and what is found.
-    for (count, want) in [(200, Found::Read(0, 419)), (201, Found::Fault(19, 205))] {
-        let mut text = String::new(rt.alloc());
-        let _ = text.push_str("goal ");
-        for _ in 0..count {
-            let _ = text.push('(');
+fn depth_and_parentheses_at_their_limits(rt: HostRuntime) -> Result<(), AllocError> {
+    // Each row: the pieces of a text with their counts, and what is found.
+    for (pieces, want) in [
+        (
+            [
+                ("goal ", 1),
+                ("(", 200),
+                ("x", 1),
+                (")", 200),
+                (" = x by ring.", 1),
+            ],
+            Found::Read(0, 419),
+        ),
+        (
+            [
+                ("goal ", 1),
+                ("(", 201),
+                ("x", 1),
+                (")", 201),
+                (" = x by ring.", 1),
+            ],
+            Found::Fault(19, 205),
+        ),
+        (
+            [
+                ("goal ", 1),
+                ("(x)", 201),
+                ("", 0),
+                ("", 0),
+                (" = x by ring.", 1),
+            ],
+            Found::Fault(4, 8),
+        ),
+        (
+            [
+                ("goal ", 1),
+                ("(x)*", 201),
+                ("x", 1),
+                ("", 0),
+                (" = x by ring.", 1),
+            ],
+            Found::Read(0, 823),
+        ),
+        // 1,000 and 1,001 times x, and the last `+`
+        (
+            [
+                ("goal ", 1),
+                ("x+", 999),
+                ("x", 1),
+                ("", 0),
+                (" = x by ring.", 1),
+            ],
+            Found::Read(0, 2_017),
+        ),
+        (
+            [
+                ("goal ", 1),
+                ("x+", 1_000),
+                ("x", 1),
+                ("", 0),
+                (" = x by ring.", 1),
+            ],
+            Found::Deep(2_004),
+        ),
+        // 999, 1,000 and 1,200 times `-`, where the first too deep node is the 1,000th from the right
+        (
+            [
+                ("goal x = ", 1),
+                ("-", 999),
+                ("x", 1),
+                ("", 0),
+                (" by ring.", 1),
+            ],
+            Found::Read(0, 1_018),
+        ),
+        (
+            [
+                ("goal x = ", 1),
+                ("-", 1_000),
+                ("x", 1),
+                ("", 0),
+                (" by ring.", 1),
+            ],
+            Found::Deep(9),
+        ),
+        (
+            [
+                ("goal ", 1),
+                ("-", 1_200),
+                ("x", 1),
+                ("", 0),
+                (" = x by ring.", 1),
+            ],
+            Found::Deep(205),
+        ),
+        // the left side before the right one
+        (
+            [
+                ("goal ", 1),
+                ("-", 1_000),
+                ("x = ", 1),
+                ("-", 1_000),
+                ("x by ring.", 1),
+            ],
+            Found::Deep(5),
+        ),
+    ] {
+        let text = text_of(&rt, pieces)?;
+        assert!(rt; first_found(&rt, text.as_str()) == want, "{text}");
+    }
+    Ok(())
+}
+
+fn is_at(span: Span, start: u32, stop: u32) -> bool {
+    span.start == start && span.stop == stop
+}
+
+/// Whether this declares a domain D of characteristic 0.
+fn is_domain(kind: &RawKind) -> bool {
+    match kind {
+        RawKind::Sort { kind, name, char0 } => {
+            *kind == Kind::Domain && is_at(*name, 7, 8) && *char0
         }
-        let _ = text.push('x');
-        for _ in 0..count {
-            let _ = text.push(')');
+        _ => false,
+    }
+}
+
+fn is_morphism(kind: &RawKind) -> bool {
+    match kind {
+        RawKind::Hom { name, from, to } => {
+            is_at(*name, 4, 5) && is_at(*from, 8, 9) && is_at(*to, 13, 14)
         }
-        let _ = text.push_str(" = x by ring.");
-        assert!(rt; first_found(&rt, text.as_str()) == want, "{count}");
+        _ => false,
+    }
+}
+
+fn are_variables(kind: &RawKind) -> bool {
+    match kind {
+        RawKind::Vars { names, sort } => match names.items() {
+            [first, second] => is_at(*first, 4, 5) && is_at(*second, 6, 8) && is_at(*sort, 11, 12),
+            _ => false,
+        },
+        _ => false,
+    }
+}
+
+/// Whether this is a goal by ring with these heads, relation and place of the method.
+fn is_goal(kind: &RawKind, left: u32, relation: u32, right: u32, place: u32) -> bool {
+    match kind {
+        RawKind::Goal {
+            equation,
+            method,
+            method_at,
+        } => {
+            equation.left.head == left
+                && equation.relation == relation
+                && !equation.nonzero
+                && equation.right.head == right
+                && matches!(method, RawMethod::Ring)
+                && *method_at == place
+        }
+        _ => false,
     }
 }
 
 #[test]
-fn what_a_sort_says(rt: HostRuntime) {
-    let raw = read_statement(rt.alloc(), "domain D char 0.", 0, Place::Plain);
-    let says = match raw {
-        Ok(raw) => match raw.kind {
-            RawKind::Sort { kind, name, char0 } => {
-                kind == Kind::Domain && name.start == 7 && name.stop == 8 && char0
-            }
-            _ => false,
-        },
+fn what_declarations_say(rt: HostRuntime) {
+    let says = match read(&rt, "domain D char 0.") {
+        Ok(raw) => is_domain(&raw.kind),
         Err(_) => false,
     };
     assert!(rt; says, "a domain of characteristic 0");
+    let says = match read(&rt, "hom f : R -> S.") {
+        Ok(raw) => is_morphism(&raw.kind),
+        Err(_) => false,
+    };
+    assert!(rt; says, "a morphism with its source and its target");
+    let says = match read(&rt, "var x yy : R.") {
+        Ok(raw) => are_variables(&raw.kind),
+        Err(_) => false,
+    };
+    assert!(rt; says, "two variables and their sort");
+}
+
+#[test]
+fn what_goals_say(rt: HostRuntime) {
+    // Each row: a goal, the heads of its sides with the sign between them, and the method's place.
+    for (text, left, relation, right, place) in [
+        ("goal x - y - z = x*y/z by ring.", 11, 15, 20, 26),
+        ("goal x + y*z = -x^2 by ring.", 7, 13, 15, 23),
+        ("goal (x + y) = f(x) by ring.", 8, 13, 15, 23),
+        ("goal -x - 1 = (-x)^2 by ring.", 8, 12, 18, 24),
+    ] {
+        let says = match read(&rt, text) {
+            Ok(raw) => is_goal(&raw.kind, left, relation, right, place),
+            Err(_) => false,
+        };
+        assert!(rt; says, "{text}");
+    }
+}
+
+#[test]
+fn the_laws_are_called() {
+    statements_are_well_read();
+    one_outcome();
 }

@@ -1,5 +1,5 @@
 use Rattle.std.proofs.lemmas.Str.{IsCharBoundary-start}
-use Rattle.alg_reader.proofs.tests.first_found.Goals as goal
+use Rattle.alg_reader.proofs.tests.read.Goals as goal
 
 -- a text begins with a character
 pub read_statement-requires-clause-boundary : goal.read_statement-requires-clause-boundary
