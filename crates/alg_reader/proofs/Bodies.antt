@@ -11,7 +11,8 @@ use Rattle.alg_reader.specs.Forms.{Ring, Sort, Hom, Vars, Hyp, Goal, alt, rule}
 use Rattle.alg_reader.specs.Grammar.{word, body}
 use Rattle.alg_reader.specs.Meaning.{kind_value}
 use Rattle.alg_reader.specs.Parts.{said}
-use Rattle.alg_reader.specs.Reading.{begins, rule_begins, Starts, Lacks, ReadsStatement, StartsEither, LacksBoth}
+use Rattle.alg_reader.specs.Ahead.{begins, rule_begins, Starts, Lacks, StartsEither, LacksBoth}
+use Rattle.alg_reader.specs.Reading.{ReadsStatement}
 use Rattle.alg_reader.proofs.Ahead.{Disjoint}
 use Rattle.alg_reader.proofs.Choices.{left_kept, right_kept}
 

@@ -6,7 +6,8 @@ use Rattle.alg_reader.specs.declared.cursor.Fault.{Fault}
 use Rattle.alg_reader.specs.declared.cursor.Fault.TheVariants.{NoMemory, Unexpected}
 use Rattle.alg_reader.specs.Forms.{Rule, Form, seq, alt, opt, many, rule, Sum, Tree, pair, left, right, some, end, more, node, spelled}
 use Rattle.alg_reader.specs.Grammar.{grammar, Fits, IsBegun, inside}
-use Rattle.alg_reader.specs.Reading.{nullable, begins, goes_on, Starts, Lacks, Takes, Stops, Fails, Reads, ReadsKept, ReadsTerm, ReadsStatement, ReadsInside}
+use Rattle.alg_reader.specs.Ahead.{nullable, begins, goes_on, Starts, Lacks}
+use Rattle.alg_reader.specs.Reading.{Takes, Stops, Fails, Reads, ReadsKept, ReadsTerm, ReadsStatement, ReadsInside}
 use Rattle.alg_reader.specs.declared.parts.Part.{Part}
 use Rattle.alg_reader.specs.declared.parts.Said.{Said}
 use Rattle.alg_reader.specs.Meaning.{Value, term, kind_value}

@@ -8,6 +8,8 @@ pub mod ReadRows
 pub mod Failing
 pub mod Turns
 pub mod Variants
+pub mod OneToken
+pub mod Powers
 pub mod Leaves
 pub mod Chains
 pub mod Cutting
@@ -21,8 +23,12 @@ pub mod Boundaries
 pub mod Found
 pub mod Nodes
 pub mod Rules
+pub mod Declarations
+pub mod GoalRules
 pub mod Derivations
 pub mod WellRead
 pub mod Unique
+pub mod OneReading
 pub mod OneOutcome
 pub mod Outcomes
+pub mod Refusals

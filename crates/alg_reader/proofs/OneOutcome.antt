@@ -1,103 +1,24 @@
--- At each place of a text there is at most one statement or first fault.
-use Rattle.std.proofs.Common.{◌≡◌, ◌≢◌, ℕ, List, [], ◌∷◌, ◌++◌, ◌⊎◌, inl, inr, length, length-append, refl, ap, sym, ◌∙◌, subst, arith, append_assoc, append-nil, Option, Some, None, is_none, unwrap_or, Result, Ok, Err}
+-- At each place of a text there is at most one statement, end or first fault.
+use Rattle.std.proofs.Common.{◌≡◌, ℕ, List, [], ◌∷◌, ◌++◌, inl, inr, length, refl, ap, sym, ◌∙◌, subst, arith, append_assoc, append-nil, Some, unwrap_or, Result, Ok, Err}
 use Rattle.alg_tokens.specs.declared.token.Token.{Token}
 use Rattle.alg_tokens.specs.declared.token.Refusal.{Refusal}
-use Rattle.alg_tokens.specs.declared.token.TokenKind.{TokenKind}
-use Rattle.alg_tokens.specs.declared.token.TokenKind.TheVariants as kinds
-use Rattle.alg_tokens.specs.declared.token.Sign.TheVariants as signs
 use Rattle.alg_tokens.specs.Next.{IsNext}
 use Rattle.alg_tokens.proofs.Cuttings.{one_next}
 use Rattle.alg_reader.specs.declared.raw.RawKind.{RawKind}
 use Rattle.alg_reader.specs.declared.reading.Raw.{Raw}
-use Rattle.alg_reader.specs.declared.reading.FileEnd.{FileEnd}
 use Rattle.alg_reader.specs.declared.reading.FileEnd.TheVariants.{Refused, NoMemory}
 use Rattle.alg_reader.specs.Forms.{Statement, rule, Tree, spelled}
-use Rattle.alg_reader.specs.Grammar.{Fits, IsBegun}
-use Rattle.alg_reader.specs.Meaning.{value, kind_value}
+use Rattle.alg_reader.specs.Grammar.{Fits}
+use Rattle.alg_reader.specs.Meaning.{value}
 use Rattle.alg_reader.specs.TooDeep.{kept_kind, first_of_statement}
-use Rattle.alg_reader.specs.Tokens.{TokensTo, GoesPast, HasNoDot, Reaches, open_with, open_after, last_kind, bar}
-use Rattle.alg_reader.specs.Statements.{IsStatement, Keeps, end_of, IsEnd, StandsAt, StopsWith, FaultBehind, IsRead}
+use Rattle.alg_reader.specs.Tokens.{HasNoDot}
+use Rattle.alg_reader.specs.Statements.{IsStatement, end_of, IsEnd, StandsAt, StopsWith, FaultBehind, IsRead}
 use Rattle.alg_reader.specs.Laws.{OneOutcome}
 use Rattle.alg_reader.proofs.Places.{statement_dot}
-use Rattle.alg_reader.proofs.Outcomes.{dot_in, first_dot, begun_front}
+use Rattle.alg_reader.proofs.Outcomes.{dot_in, first_dot}
 use Rattle.alg_reader.proofs.Unique.{one_tree}
 use Rattle.alg_reader.proofs.WellRead.{one_kind}
-
--- ---- tokens from one place
-
-token_of : Result Token Refusal → Token → Token
-token_of (Ok t) other = t
-token_of (Err e) other = other
-
--- the next token is one
-one_token : (text : List ℕ) (at : ℕ) (t u : Token) → IsNext text at (Ok t) → IsNext text at (Ok u) → t ≡ u
-unfolding token_of
-one_token text at t u h k = ap (λ r. token_of r t) (one_next text at (Ok t) (Ok u) h k)
-
-no_fault : (text : List ℕ) (at : ℕ) (t : Token) (e : Refusal) → IsNext text at (Ok t) → IsNext text at (Err e) → ⊥
-no_fault text at t e h k = let clash = one_next text at (Ok t) (Err e) h k in cc
-
-no_end : (text : List ℕ) (at : ℕ) (t : Token) → IsNext text at (Ok t) → t.kind ≢ kinds.End
-    → IsNext text at (Ok (end_of text)) → ⊥
-no_end text at t h lexeme k = lexeme (ap (λ u. u.kind) (one_token text at t (end_of text) h k))
-
--- one list of tokens goes on behind the other
-abbrev GoesOn : List ℕ → List Token → ℕ → List Token → Type 0
-GoesOn text ts stop us = (t : Token) × (after : List Token) × (us ≡ ts ++ t ∷ after) × IsNext text stop (Ok t)
-    × (t.kind ≢ kinds.End)
-
-abbrev Compared : List ℕ → List Token → ℕ → List Token → ℕ → Type 0
-Compared text ts stop us stop' = ((ts ≡ us) × (stop ≡ stop')) ⊎ GoesOn text ts stop us ⊎ GoesOn text us stop' ts
-
-compared_more : (text : List ℕ) (t : Token) (ts : List Token) (stop : ℕ) (us : List Token) (stop' : ℕ)
-    → Compared text ts stop us stop' → Compared text (t ∷ ts) stop (t ∷ us) stop'
-compared_more text t ts stop us stop' (inl (same, place)) = inl (ap (λ xs. t ∷ xs) same, place)
-compared_more text t ts stop us stop' (inr (inl (u, after, e, next, lexeme))) =
-    inr (inl (u, after, ap (λ xs. t ∷ xs) e, next, lexeme))
-compared_more text t ts stop us stop' (inr (inr (u, after, e, next, lexeme))) =
-    inr (inr (u, after, ap (λ xs. t ∷ xs) e, next, lexeme))
-
-compare : (text : List ℕ) (at stop stop' : ℕ) (ts us : List Token) → TokensTo text at ts stop
-    → TokensTo text at us stop' → Compared text ts stop us stop'
-compare text at stop stop' [] [] e e' = inl (refl, sym e ∙ e')
-compare text at stop stop' [] (u ∷ us) e (next, lexeme, _) = let P : ℕ → Type 0 = λ n. IsNext text n (Ok u) in
-    inr (inl (u, us, refl, subst P e next, lexeme))
-compare text at stop stop' (t ∷ ts) [] (next, lexeme, _) e = let P : ℕ → Type 0 = λ n. IsNext text n (Ok t) in
-    inr (inr (t, ts, refl, subst P e next, lexeme))
-compare text at stop stop' (t ∷ ts) (u ∷ us) (next, _, to) (next', _, to') =
-    let same = one_token text at t u next next' in
-    let P : Token → Type 0 = λ x. TokensTo text x.stop us stop' in
-    let Q : Token → Type 0 = λ x. Compared text (t ∷ ts) stop (x ∷ us) stop' in
-    subst Q same (compared_more text t ts stop us stop' (compare text t.stop stop stop' ts us to
-    (subst P (sym same) to')))
-
--- ---- no fault stands where reading goes on
-
-free_at : (depth : ℕ) (last : Option TokenKind) (before : List Token) (t : Token) (after : List Token)
-    → GoesPast depth last (before ++ t ∷ after) → bar (open_after depth before) (last_kind last before) t.kind ≡ None
-free_at depth last [] t after past = past.0
-free_at depth last (b ∷ before) t after past = free_at (open_with depth b.kind) (Some b.kind) before t after past.1
-
-no_bar : (code : Option ℕ) (n : ℕ) → code ≡ None → code ≡ Some n → ⊥
-no_bar code n none some = let clash = ap (λ r. is_none r) (sym none ∙ some) in cc
-
-goes_on_there : (text : List ℕ) (before ts : List Token) (t : Token) (after : List Token) (stop : ℕ) (fault : Refusal)
-    → ts ≡ before ++ t ∷ after → IsNext text stop (Ok t) → t.kind ≢ kinds.End → GoesPast 0 None ts
-    → IsBegun (rule Statement) ts → FaultBehind text before stop fault → ⊥
-goes_on_there text before ts t after stop fault same next lexeme past begun (inl other) = no_fault text stop t fault next other
-goes_on_there text before ts t after stop fault same next lexeme past begun (inr (inl (ends, _, _))) =
-    no_end text stop t next lexeme ends
-goes_on_there text before ts t after stop fault same next lexeme past begun (inr (inr (u, other, _, _, inl (_, stuck)))) =
-    let one = one_token text stop t u next other in
-    let whole : ts ≡ (before ++ t ∷ []) ++ after = same ∙ sym (append_assoc before (t ∷ []) after) in
-    let here = begun_front (rule Statement) (before ++ t ∷ []) after (subst (IsBegun (rule Statement)) whole begun) in
-    let P : Token → Type 0 = λ x. IsBegun (rule Statement) (before ++ x ∷ []) in
-    stuck (subst P one here)
-goes_on_there text before ts t after stop fault same next lexeme past begun (inr (inr (u, other, _, _, inr (stops, _)))) =
-    let one = one_token text stop t u next other in
-    let free = free_at 0 None before t after (subst (GoesPast 0 None) same past) in
-    let P : Token → Type 0 = λ x. bar (open_after 0 before) (last_kind None before) x.kind ≡ None in
-    no_bar _ fault.code (subst P one free) stops
+use Rattle.alg_reader.proofs.OneReading.{compare, goes_on_there, no_end, no_fault, one_token}
 
 -- ---- two statements
 

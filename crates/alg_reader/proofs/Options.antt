@@ -10,12 +10,13 @@ use Rattle.alg_reader.specs.declared.raw.Span.{Span}
 use Rattle.alg_reader.specs.Forms.{Use, Form, a, seq, many, rule}
 use Rattle.alg_reader.specs.Grammar.{grammar, word, using, inside}
 use Rattle.alg_reader.specs.Meaning.{act, one, used, under, span_of, uses_of}
-use Rattle.alg_reader.specs.Reading.{begins, goes_on, rule_goes_on, Starts, Lacks, Takes, Fails, behind, ReadsAs, ReadsUses}
+use Rattle.alg_reader.specs.Ahead.{begins, goes_on, rule_goes_on, Starts, Lacks}
+use Rattle.alg_reader.specs.Reading.{Takes, Fails, behind, ReadsAs, ReadsUses}
 use Rattle.alg_reader.proofs.Ahead.{Disjoint}
 use Rattle.alg_reader.proofs.ReadSequences.{takes_seq}
 use Rattle.alg_reader.proofs.ReadChoices.{takes_some, takes_none}
 use Rattle.alg_reader.proofs.Failing.{fails_first, fails_second, fails_some}
-use Rattle.alg_reader.proofs.Leaves.{starts_seq, lacks_seq}
+use Rattle.alg_reader.proofs.OneToken.{starts_seq, lacks_seq}
 use Rattle.alg_reader.proofs.Sequences.{owes_rule, owes_token, fails_token, token_apart}
 use Rattle.alg_reader.proofs.Trees.{some_tree}
 

@@ -1,33 +1,28 @@
--- From the tokens of a statement and what the grammar says of them to the statement of the text, or its first fault.
-use Rattle.std.proofs.Common.{◌≡◌, ◌≢◌, ℕ, Bool, true, false, ◌&&◌, ◌==◌, not, List, [], ◌∷◌, ◌++◌, ◌⊎◌, inl, inr, length, length-append, drop, refl, ap, sym, ◌∙◌, subst, arith, append_assoc, append-nil, Option, Some, None, is_none, Ok, Err, Result, IsErrAnd, eq-eqb}
+-- From the tokens of a statement and what the grammar says of them to the statement of the text.
+use Rattle.std.proofs.Common.{◌≡◌, ◌≢◌, ℕ, List, [], ◌∷◌, ◌++◌, inl, inr, length, length-append, drop, refl, ap, sym, ◌∙◌, subst, arith, append_assoc, append-nil, Option, Some, None, is_none, Ok, Err, Result, IsErrAnd}
 use Rattle.std.proofs.lemmas.Result.{err_from_is_err_and}
 use Rattle.alg_tokens.specs.declared.token.Token.{Token}
 use Rattle.alg_tokens.specs.declared.token.Refusal.{Refusal}
 use Rattle.alg_tokens.specs.declared.token.TokenKind.{TokenKind}
 use Rattle.alg_tokens.specs.declared.token.TokenKind.TheVariants as kinds
 use Rattle.alg_tokens.specs.declared.token.Sign.TheVariants as signs
-use Rattle.alg_tokens.specs.declared.token.Word.TheVariants as words
 use Rattle.alg_tokens.specs.Next.{IsNext}
-use Rattle.alg_reader.specs.Kinds.{variant, code}
-use Rattle.alg_reader.specs.Forms as rules
-use Rattle.alg_reader.specs.Forms.{Rule, Statement, Form, a, seq, alt, opt, many, rule, Tree, token, pair, left, right, none, some, end, more, node, spelled}
-use Rattle.alg_reader.specs.Grammar.{grammar, Fits, IsBegun, body}
-use Rattle.alg_reader.specs.Reading.{Takes, Stops, rule_goes_on}
-use Rattle.alg_reader.specs.Tokens.{refusal, refusal_of, TokensTo, open_with, open_after, last_kind, bar, GoesPast, HasNoDot, Reaches, IsStatementCut}
+use Rattle.alg_reader.specs.Kinds.{code}
+use Rattle.alg_reader.specs.Forms.{Statement, Form, a, rule, Tree, token, none, end, spelled}
+use Rattle.alg_reader.specs.Grammar.{Fits, IsBegun}
+use Rattle.alg_reader.specs.Reading.{Takes, Stops}
+use Rattle.alg_reader.specs.Tokens.{TokensTo, open_after, last_kind, bar, GoesPast, HasNoDot, Reaches, IsStatementCut}
 use Rattle.alg_reader.specs.declared.raw.RawKind.{RawKind}
 use Rattle.alg_reader.specs.Meaning.{kind_value}
 use Rattle.alg_reader.specs.declared.raw.RawKind.TheVariants as raws
 use Rattle.alg_reader.specs.declared.reading.Raw.{Raw}
 use Rattle.alg_reader.specs.declared.reading.FileEnd.{FileEnd}
-use Rattle.alg_reader.specs.declared.reading.FileEnd.TheVariants.{Refused, NoMemory}
+use Rattle.alg_reader.specs.declared.reading.FileEnd.TheVariants.{NoMemory}
 use Rattle.alg_reader.specs.declared.parts.Said.{Said}
 use Rattle.alg_reader.specs.Parts.{said}
 use Rattle.alg_reader.specs.Statements.{Keeps, end_of, IsRead}
 use Rattle.alg_reader.proofs.Cutting.{tokens_more, past_more}
-use Rattle.alg_reader.proofs.Variants.{is_dot}
-use Rattle.alg_reader.proofs.Places.{split_end, split_token, tokens_split, past_split, dot_split, prefix_of, no_dot_append, statement_dot, head_or}
-
--- ---- the outcome
+use Rattle.alg_reader.proofs.Places.{no_dot_append, statement_dot, head_or}
 
 -- where no dot was, none is
 pub dot_in : (front after : List Token) (d : Token) → d.kind ≡ kinds.Sign signs.Dot → HasNoDot (front ++ d ∷ after) → ⊥
@@ -52,18 +47,18 @@ pub begun_front : (f : Form) (xs ys : List Token) → IsBegun f (xs ++ ys) → I
 begun_front f xs ys (v, back, fits, e) = (v, ys ++ back, fits, e ∙ append_assoc xs ys back)
 
 -- stuck at a token: with it no statement begins
-stuck_there : (ts rest : List Token) (t : Token) (p : Stops (rule Statement) ts (t ∷ rest))
+pub stuck_there : (ts rest : List Token) (t : Token) (p : Stops (rule Statement) ts (t ∷ rest))
     → IsBegun (rule Statement) (p.seen ++ t ∷ []) → ⊥
 stuck_there ts rest t p b = p.stuck b.0 [] (t ∷ b.1) (t, rest, b.1, refl, refl) b.2 tt (append-nil (spelled b.0)
     ∙ b.3 ∙ append_assoc p.seen (t ∷ []) b.1)
 
 -- a dot bars nothing
-dot_free : (depth : ℕ) (last : Option TokenKind) (kind : TokenKind) → kind ≡ kinds.Sign signs.Dot
+pub dot_free : (depth : ℕ) (last : Option TokenKind) (kind : TokenKind) → kind ≡ kinds.Sign signs.Dot
     → bar depth last kind ≡ None
 dot_free depth last kind is = let P : TokenKind → Type 0 = λ k. bar depth last k ≡ None in subst P (sym is) refl
 
 -- where reading is stopped by a token that is no dot, no token is one
-stopped_no_dot : (text : List ℕ) (at : ℕ) (before : List Token) (t : Token) (n : ℕ) → HasNoDot before
+pub stopped_no_dot : (text : List ℕ) (at : ℕ) (before : List Token) (t : Token) (n : ℕ) → HasNoDot before
     → bar (open_after 0 before) (last_kind None before) t.kind ≡ Some n → HasNoDot (before ++ t ∷ [])
 stopped_no_dot text at before t n clear barred =
     no_dot_append before (t ∷ []) clear (
@@ -73,7 +68,7 @@ stopped_no_dot text at before t n clear barred =
     )
 
 -- without a dot there is no statement
-no_statement : (ts new : List Token) (e : Token) (v : Tree) → e.kind ≡ kinds.End → HasNoDot ts
+pub no_statement : (ts new : List Token) (e : Token) (v : Tree) → e.kind ≡ kinds.End → HasNoDot ts
     → Fits (rule Statement) v → ts ++ e ∷ [] ≡ spelled v ++ new → ⊥
 no_statement ts new e v is clear fits cut =
     let (front, d, spell, dot, _) = statement_dot v fits in
@@ -191,168 +186,3 @@ read_end text at ts fault empty (inr (inl (stop, (to, _, _), next, same))) five 
     inl (subst Q (sym here) next, ap (λ n. record { kind = raws.End; start = n; stop = n; too_deep = None }) place)
 read_end text at ts fault empty (inr (inr (before, t, stop, same, _, _, _, _))) five =
     let none = ap length (sym empty ∙ same) ∙ length-append before (t ∷ []) in absurd (omega arith)
-
--- ---- refused
-
-end_or_not : (kind : TokenKind) → (kind ≡ kinds.End) ⊎ (kind ≢ kinds.End)
-end_or_not kinds.End = inl refl
-end_or_not kinds.Name = inr (λ h. cc)
-end_or_not (kinds.Word word) = inr (λ h. cc)
-end_or_not (kinds.Number value) = inr (λ h. cc)
-end_or_not (kinds.Sign sign) = inr (λ h. cc)
-
-refusal_at_end : (t : Token) (fault : Refusal) → t.kind ≡ kinds.End → refusal t fault ≡ fault
-refusal_at_end t fault is = let P : TokenKind → Type 0 = λ k. refusal_of k t.start fault ≡ fault in
-    subst P (sym is) refl
-
-refusal_of_kind : (kind : TokenKind) (at : ℕ) (fault : Refusal) → kind ≢ kinds.End
-    → refusal_of kind at fault ≡ record { code = 4; at = at }
-refusal_of_kind kinds.End at fault other = absurd (other refl)
-refusal_of_kind kinds.Name at fault other = refl
-refusal_of_kind (kinds.Word word) at fault other = refl
-refusal_of_kind (kinds.Number value) at fault other = refl
-refusal_of_kind (kinds.Sign sign) at fault other = refl
-
--- stuck at a token of the statement
-stuck_token : (text : List ℕ) (at stop : ℕ) (ts seen after : List Token) (t : Token) (fault : Refusal)
-    → TokensTo text at ts stop → GoesPast 0 None seen → HasNoDot seen → ts ≡ seen ++ t ∷ after
-    → IsBegun (rule Statement) seen → (IsBegun (rule Statement) (seen ++ t ∷ []) → ⊥) → t.kind ≢ kinds.End
-    → IsRead text at (Err (Refused (refusal t fault)))
-unfolding IsRead
-stuck_token text at stop ts seen after t fault to past clear same begun stuck lexeme =
-    let P : List Token → Type 0 = λ us. TokensTo text at us stop in
-    let (mid, front, next, _) = tokens_split text at stop seen after t (subst P same to) in
-    let Q : Refusal → Type 0 = λ r. IsRead text at (Err (Refused r)) in
-    subst Q (sym (refusal_of_kind t.kind t.start fault lexeme))
-    (seen, mid, (front, past, clear), begun, inr (inr (t, next, lexeme, refl, inl (refl, stuck))))
-
--- a token among all of them
-stuck_inside : (text : List ℕ) (at : ℕ) (ts seen rest : List Token) (e t : Token) (fault : Refusal)
-    → e.kind ≡ kinds.End → IsStatementCut text at ts fault
-    → ts ++ e ∷ [] ≡ seen ++ t ∷ rest → IsBegun (rule Statement) seen
-    → (IsBegun (rule Statement) (seen ++ t ∷ []) → ⊥) → t.kind ≢ kinds.End
-    → IsRead text at (Err (Refused (refusal t fault)))
-stuck_inside text at ts seen rest e t fault is (inl (mid, (to, past, clear), _)) cut begun stuck lexeme =
-    let (after, same) = split_token ts seen rest e t is lexeme cut in
-    stuck_token text at mid ts seen after t fault to (past_split 0 None seen (t ∷ after) (subst
-    (GoesPast 0 None) same past)) (dot_split seen (t ∷ after) (subst HasNoDot same clear)) same begun stuck lexeme
-stuck_inside text at ts seen rest e t fault is (inr (inl (mid, (to, past, clear), _, _))) cut begun stuck lexeme =
-    let (after, same) = split_token ts seen rest e t is lexeme cut in
-    stuck_token text at mid ts seen after t fault to (past_split 0 None seen (t ∷ after) (subst
-    (GoesPast 0 None) same past)) (dot_split seen (t ∷ after) (subst HasNoDot same clear)) same begun stuck lexeme
-stuck_inside text at ts seen rest e t fault is (inr (inr (
-  before,
-  last,
-  mid,
-  split,
-  (to, past, clear),
-  next,
-  here,
-  _,
-))) cut begun stuck lexeme =
-    let (after, same) = split_token ts seen rest e t is lexeme cut in
-    let (tail, front) = prefix_of before seen after last t (sym split ∙ same) in
-    let P : List Token → Type 0 = λ us. TokensTo text at us last.stop in
-    stuck_token text at last.stop ts seen after t fault (subst P (sym split)
-    (tokens_more text at mid before last to next here))
-    (past_split 0 None seen tail (subst (GoesPast 0 None) front past)) (dot_split seen tail
-    (subst HasNoDot front clear)) same begun stuck lexeme
-
--- stuck behind a dot: the tokens are a statement
-never_behind_dot : (before us rest : List Token) (last t : Token) (p : Stops (rule Statement) us (t ∷ rest))
-    → p.seen ≡ before ++ last ∷ [] → HasNoDot before
-    → last.kind ≡ kinds.Sign signs.Dot → t.kind ≡ kinds.End → ⊥
-unfolding rule_goes_on
-never_behind_dot before us rest last t p all clear dot is =
-    let (v, later, fits, e) = p.begun in
-    let (front, d, spell, so, none_before) = statement_dot v fits in
-    let long : before ++ last ∷ later ≡ front ++ d ∷ [] = sym (append_assoc before (last ∷ []) later)
-    ∙ ap (λ us. us ++ later) (sym all) ∙ sym e ∙ spell in
-    let (_, _, nothing_left) = first_dot before front later [] last d clear none_before dot so long in
-    let whole : spelled v ≡ p.seen = e ∙ ap (λ us. p.seen ++ us) nothing_left ∙ append-nil p.seen in
-    p.stuck v (t ∷ rest) (t ∷ rest) (t, rest, rest, refl, refl) fits refl (ap (λ us. us ++ t ∷ rest) whole)
-
--- stuck behind all tokens
-stuck_behind : (text : List ℕ) (at : ℕ) (ts us rest : List Token) (t : Token) (fault : Refusal)
-    → IsStatementCut text at ts fault → (p : Stops (rule Statement) us (t ∷ rest))
-    → p.seen ≡ ts → t.kind ≡ kinds.End → (ts ≡ [] → fault.code ≡ 5 → ⊥) → IsRead text at (Err (Refused fault))
-unfolding IsRead
-stuck_behind text at ts us rest t fault (inl (mid, reaches, next)) p all is inside = (
-  ts,
-  mid,
-  reaches,
-  subst (IsBegun (rule Statement)) all p.begun,
-  inl next,
-)
-stuck_behind text at ts us rest t fault (inr (inl (mid, reaches, next, five))) p all is inside = (
-  ts,
-  mid,
-  reaches,
-  subst (IsBegun (rule Statement)) all p.begun,
-  inr (inl (
-    next,
-    λ empty. inside empty (ap (λ r. r.code) five),
-    five,
-  )),
-)
-stuck_behind text at ts us rest t fault (inr (inr (
-  before,
-  last,
-  mid,
-  split,
-  reaches,
-  next,
-  lexeme,
-  inl dot,
-))) p all is inside =
-    absurd (never_behind_dot before us rest last t p (all ∙ split) reaches.2 dot is)
-stuck_behind text at ts us rest t fault (inr (inr (
-  before,
-  last,
-  mid,
-  split,
-  reaches,
-  next,
-  lexeme,
-  inr (
-    barred,
-    place,
-  ),
-))) p all is inside =
-    let begun : IsBegun (rule Statement) (before ++ last ∷ []) = subst (IsBegun (rule Statement)) (all
-    ∙ split) p.begun in (
-      before,
-      mid,
-      reaches,
-      begun_front (rule Statement) before (last ∷ []) begun,
-      inr (inr (
-        last,
-        next,
-        lexeme,
-        place,
-        inr (barred, begun),
-      )),
-    )
-
-cut_tokens : (text : List ℕ) (at : ℕ) (ts : List Token) (fault : Refusal) → IsStatementCut text at ts fault
-    → (stop : ℕ) × TokensTo text at ts stop
-cut_tokens text at ts fault (inl (mid, (to, _, _), _)) = (mid, to)
-cut_tokens text at ts fault (inr (inl (mid, (to, _, _), _, _))) = (mid, to)
-cut_tokens text at ts fault (inr (inr (before, last, mid, split, (to, _, _), next, lexeme, _))) =
-    let P : List Token → Type 0 = λ us. TokensTo text at us last.stop in
-    (last.stop, subst P (sym split) (tokens_more text at mid before last to next lexeme))
-
-pub read_refused : (text : List ℕ) (at : ℕ) (ts rest : List Token) (e t : Token) (fault : Refusal)
-    → e.kind ≡ kinds.End → IsStatementCut text at ts fault
-    → (ts ≡ [] → fault.code ≡ 5 → ⊥) → Stops (rule Statement) (ts ++ e ∷ []) (t ∷ rest)
-    → IsRead text at (Err (Refused (refusal t fault)))
-read_refused text at ts rest e t fault is cut inside p = elim (end_or_not t.kind) [
-  | inr lexeme ↦ stuck_inside text at ts p.seen rest e t fault is cut p.cut p.begun (stuck_there
-      (ts ++ e ∷ []) rest t p) lexeme
-  | inl ended ↦
-      let (mid, to) = cut_tokens text at ts fault cut in
-      let (all, _) = split_end text at mid ts p.seen rest e t to ended p.cut in
-      let Q : Refusal → Type 0 = λ r. IsRead text at (Err (Refused r)) in
-      subst Q (sym (refusal_at_end t fault ended)) (stuck_behind text at ts
-      (ts ++ e ∷ []) rest t fault cut p all ended inside)
-]

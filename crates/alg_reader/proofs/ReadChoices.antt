@@ -5,7 +5,8 @@ use Rattle.alg_tokens.specs.declared.token.TokenKind.{TokenKind}
 use Rattle.alg_reader.specs.Kinds.{variant, code}
 use Rattle.alg_reader.specs.Forms.{Rule, Statement, Ring, Sort, Hom, Vars, Hyp, Goal, Method, Use, Sum, Product, Unary, Power, Leaf, Form, a, seq, alt, opt, many, rule, Tree, token, pair, left, right, none, some, end, more, node, spelled}
 use Rattle.alg_reader.specs.Grammar.{grammar, Fits}
-use Rattle.alg_reader.specs.Reading.{rule_begins, rule_goes_on, nullable, begins, goes_on, Ends, SameHead, Starts, Lacks, Takes, Stops}
+use Rattle.alg_reader.specs.Ahead.{rule_begins, rule_goes_on, nullable, begins, goes_on, Ends, SameHead, Starts, Lacks}
+use Rattle.alg_reader.specs.Reading.{Takes, Stops}
 use Rattle.alg_reader.specs.Meaning.{Value, one, two, nothing, act}
 use Rattle.alg_reader.proofs.Ahead.{Disjoint, same_head_after, starts_with, clash, lacks_clash, same_starts, same_lacks, ends_clash, ends_opt, ends_left, ends_right}
 

@@ -5,7 +5,8 @@ use Rattle.alg_tokens.specs.declared.token.TokenKind.{TokenKind}
 use Rattle.alg_reader.specs.declared.cursor.Fault.{Fault}
 use Rattle.alg_reader.specs.Forms.{Rule, Form, a, seq, rule}
 use Rattle.alg_reader.specs.Grammar.{grammar}
-use Rattle.alg_reader.specs.Reading.{begins, goes_on, Takes, Fails, Owes}
+use Rattle.alg_reader.specs.Ahead.{begins, goes_on}
+use Rattle.alg_reader.specs.Reading.{Takes, Fails, Owes}
 use Rattle.alg_reader.specs.Meaning.{Value, two, act}
 use Rattle.alg_reader.proofs.Ahead.{Disjoint}
 use Rattle.alg_reader.proofs.ReadSequences.{takes_seq}

@@ -9,7 +9,8 @@ use Rattle.alg_reader.specs.declared.cursor.Fault.{Fault}
 use Rattle.alg_reader.specs.Kinds.{variant, code}
 use Rattle.alg_reader.specs.Forms.{Rule, Sum, Product, Unary, Form, a, seq, alt, many, rule, end}
 use Rattle.alg_reader.specs.Grammar.{grammar}
-use Rattle.alg_reader.specs.Reading.{begins, goes_on, rule_goes_on, Starts, Lacks, Takes, Fails, turn, Continues, StartsEither, LacksBoth}
+use Rattle.alg_reader.specs.Ahead.{begins, goes_on, rule_goes_on, Starts, Lacks, StartsEither, LacksBoth}
+use Rattle.alg_reader.specs.Reading.{Takes, Fails, turn, Continues}
 use Rattle.alg_reader.specs.Meaning.{Value, one, two, nothing, term, act, act_sum, chain, binary}
 use Rattle.alg_reader.proofs.Ahead.{Disjoint, or_first, or_true}
 use Rattle.alg_reader.proofs.ReadSequences.{takes_token, takes_seq}

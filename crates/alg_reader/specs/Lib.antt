@@ -2,6 +2,7 @@ pub mod Kinds
 pub mod Forms
 pub mod Grammar
 pub mod Meaning
+pub mod Ahead
 pub mod Reading
 pub mod Tokens
 pub mod RawTerms

@@ -54,7 +54,8 @@ impl<'a> Model for Cursor<'a> {
 }
 
 impl Cursor<'_> {
-    ghost use Rattle.alg_reader.specs.Reading.{Starts, Lacks, StartsEither, LacksBoth, Reads};
+    ghost use Rattle.alg_reader.specs.Ahead.{Starts, Lacks, StartsEither, LacksBoth};
+    ghost use Rattle.alg_reader.specs.Reading.{Reads};
     ghost use Rattle.alg_reader.specs.Meaning.{one};
     ghost use Rattle.alg_reader.specs.Grammar.{number};
 

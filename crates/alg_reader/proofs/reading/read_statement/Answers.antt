@@ -7,7 +7,8 @@ use Rattle.alg_reader.specs.Reading.{Takes, Stops, Fails}
 use Rattle.alg_reader.specs.declared.cursor.Fault.TheVariants.{Unexpected}
 use Rattle.alg_tokens.specs.declared.token.TokenKind.TheVariants as kinds
 use Rattle.alg_reader.proofs.Chains.{empty_below_one}
-use Rattle.alg_reader.proofs.Outcomes.{no_memory, passed_no_memory, read_end, read_ok, read_refused}
+use Rattle.alg_reader.proofs.Outcomes.{no_memory, passed_no_memory, read_end, read_ok}
+use Rattle.alg_reader.proofs.Refusals.{read_refused}
 use Rattle.alg_reader.proofs.WellRead.{well_read}
 use Rattle.alg_reader.proofs.reading.read_statement.Goals as goal
 use Rattle.alg_reader.proofs.reading.read_statement.Goals.{else-is_empty-via-then-is_empty+else-fault-eq-ENDS, else-is_empty-via-else-is_empty}

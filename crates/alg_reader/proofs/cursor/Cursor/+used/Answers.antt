@@ -5,7 +5,7 @@ use Rattle.alg_reader.specs.Forms.{rule, Use}
 use Rattle.alg_reader.specs.Meaning.{used}
 use Rattle.alg_reader.specs.Reading.{behind}
 use Rattle.alg_reader.proofs.Failing.{passed_kept}
-use Rattle.alg_reader.proofs.Leaves.{taken}
+use Rattle.alg_reader.proofs.OneToken.{taken}
 use Rattle.alg_reader.proofs.Options.{takes_alone, takes_under, fails_name, fails_inner, fails_closing, behind_alone, behind_more}
 use Rattle.alg_reader.proofs.cursor.Cursor.+used.Goals as goal
 

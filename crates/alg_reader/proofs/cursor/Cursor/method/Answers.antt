@@ -9,7 +9,7 @@ use Rattle.alg_reader.proofs.ReadSequences.{takes_seq}
 use Rattle.alg_reader.proofs.ReadChoices.{takes_left, takes_right}
 use Rattle.alg_reader.proofs.ReadRows.{takes_rule}
 use Rattle.alg_reader.proofs.Failing.{passed, fails_second, fails_left, fails_right, fails_rule}
-use Rattle.alg_reader.proofs.Leaves.{taken, starts_seq, lacks_seq}
+use Rattle.alg_reader.proofs.OneToken.{taken, starts_seq, lacks_seq}
 use Rattle.alg_reader.proofs.Choices.{nsatz_apart, options_apart}
 use Rattle.alg_reader.proofs.cursor.Cursor.method.Goals as goal
 

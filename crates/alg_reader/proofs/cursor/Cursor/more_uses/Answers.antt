@@ -7,7 +7,7 @@ use Rattle.alg_reader.specs.Reading.{behind}
 use Rattle.alg_reader.proofs.ReadSequences.{takes_seq}
 use Rattle.alg_reader.proofs.ReadRows.{takes_more, takes_end}
 use Rattle.alg_reader.proofs.Failing.{passed_kept, fails_second, fails_turn, fails_later}
-use Rattle.alg_reader.proofs.Leaves.{taken, starts_seq, lacks_seq}
+use Rattle.alg_reader.proofs.OneToken.{taken, starts_seq, lacks_seq}
 use Rattle.alg_reader.proofs.Sequences.{token_apart}
 use Rattle.alg_reader.proofs.Options.{next_use, comma_apart}
 use Rattle.alg_reader.proofs.cursor.Cursor.more_uses.Goals as goal

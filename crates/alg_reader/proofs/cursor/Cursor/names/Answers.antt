@@ -3,7 +3,7 @@ use Rattle.alg_tokens.specs.declared.token.TokenKind.TheVariants as kinds
 use Rattle.alg_reader.specs.Forms.{a}
 use Rattle.alg_reader.specs.Meaning.{one, two, nothing, spans}
 use Rattle.alg_reader.proofs.ReadRows.{takes_more, takes_end}
-use Rattle.alg_reader.proofs.Leaves.{taken}
+use Rattle.alg_reader.proofs.OneToken.{taken}
 use Rattle.alg_reader.proofs.cursor.Cursor.names.Goals as goal
 
 pub names-init : goal.names-init

@@ -1,5 +1,5 @@
 use Rattle.std.proofs.Common.{◌≡◌, ◌∷◌}
-use Rattle.alg_reader.proofs.Leaves.{number_taken, no_number}
+use Rattle.alg_reader.proofs.OneToken.{number_taken, no_number}
 use Rattle.alg_reader.proofs.cursor.Cursor.numeral.Goals as goal
 
 pub returns-then-not-sees_number : goal.returns-then-not-sees_number

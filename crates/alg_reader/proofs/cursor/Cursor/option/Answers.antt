@@ -6,7 +6,7 @@ use Rattle.alg_reader.specs.Meaning.{option_of}
 use Rattle.alg_reader.proofs.ReadSequences.{takes_seq}
 use Rattle.alg_reader.proofs.ReadChoices.{takes_some, takes_none}
 use Rattle.alg_reader.proofs.Failing.{passed_kept, fails_second, fails_some}
-use Rattle.alg_reader.proofs.Leaves.{taken, starts_seq, lacks_seq}
+use Rattle.alg_reader.proofs.OneToken.{taken, starts_seq, lacks_seq}
 use Rattle.alg_reader.proofs.Sequences.{token_apart}
 use Rattle.alg_reader.proofs.cursor.Cursor.option.Goals as goal
 

@@ -9,7 +9,7 @@ use Rattle.alg_reader.specs.Meaning.{act}
 use Rattle.alg_reader.proofs.ReadSequences.{takes_seq}
 use Rattle.alg_reader.proofs.ReadChoices.{takes_some, takes_none}
 use Rattle.alg_reader.proofs.Failing.{passed_statement, fails_second, fails_some}
-use Rattle.alg_reader.proofs.Leaves.{taken, starts_seq, lacks_seq}
+use Rattle.alg_reader.proofs.OneToken.{taken, starts_seq, lacks_seq}
 use Rattle.alg_reader.proofs.Sequences.{owes_rule, owes_less, owes_fails, owes_token, fails_token}
 use Rattle.alg_reader.proofs.cursor.Cursor.sort.Goals as goal
 

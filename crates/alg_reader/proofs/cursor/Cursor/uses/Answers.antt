@@ -7,7 +7,7 @@ use Rattle.alg_reader.specs.Meaning.{nothing, uses_of}
 use Rattle.alg_reader.specs.Reading.{behind, ReadsUses}
 use Rattle.alg_reader.proofs.ReadChoices.{takes_none}
 use Rattle.alg_reader.proofs.Failing.{passed_kept}
-use Rattle.alg_reader.proofs.Leaves.{taken, lacks_seq}
+use Rattle.alg_reader.proofs.OneToken.{taken, lacks_seq}
 use Rattle.alg_reader.proofs.Options.{all_uses, some_uses, fails_first_use, uses_read}
 use Rattle.alg_reader.proofs.cursor.Cursor.uses.Goals as goal
 

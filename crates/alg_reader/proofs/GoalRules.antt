@@ -1,0 +1,160 @@
+-- What the rules of methods, goals and statements make of what their parts mean.
+use Rattle.std.proofs.Common.{◌≡◌, ◌≤◌, ℕ, ◌+◌, ◌⊎◌, inl, inr, Bool, true, false, List, [], ◌∷◌, ◌++◌, length, refl, ap, sym, ◌∙◌, subst, arith, append_assoc, append-nil, length-append}
+use Rattle.std.specs.List.{AllByRecursion}
+use Rattle.alg_tokens.specs.declared.token.Token.{Token}
+use Rattle.alg_tokens.specs.declared.token.TokenKind.{TokenKind}
+use Rattle.alg_tokens.specs.declared.token.TokenKind.TheVariants as kinds
+use Rattle.alg_tokens.specs.declared.token.Sign.TheVariants as signs
+use Rattle.alg_tokens.specs.declared.token.Word.TheVariants as words
+use Rattle.alg_reader.specs.declared.raw.Span.{Span}
+use Rattle.alg_reader.specs.declared.raw.RawTerm.{RawTerm}
+use Rattle.alg_reader.specs.declared.raw.RawMethod.{RawMethod}
+use Rattle.alg_reader.specs.declared.raw.RawKind.{RawKind}
+use Rattle.alg_reader.specs.declared.raw.RawKind.TheVariants as raws
+use Rattle.alg_terms.specs.declared.declarations.Kind.TheVariants as sorts
+use Rattle.alg_reader.specs.Kinds.{variant, code}
+use Rattle.alg_reader.specs.Forms as rules
+use Rattle.alg_reader.specs.Forms.{Rule, Form, a, seq, alt, opt, many, rule, Tree, token, pair, left, right, none, some, end, more, node, spelled}
+use Rattle.alg_reader.specs.Grammar.{grammar, Fits, name, sign, word, body, options}
+use Rattle.alg_reader.specs.Meaning.{Value, one, two, nothing, term, method, span_of, value, act, kind_value, sides, spans, sort_word, method_word, nsatz_of, act_method}
+use Rattle.alg_reader.specs.WellRead.{IsNameAt, IsWellMethod}
+use Rattle.alg_reader.proofs.Boundaries.{IsTokenAt}
+use Rattle.alg_reader.proofs.Variants.{is_by, is_nsatz}
+use Rattle.alg_reader.proofs.Found.{all_split, row, EachOf, IsFoundTerm, IsFoundKind, IsSpelledKind, IsRingUnless, TermFound, KindFound, RuleFound, Found}
+use Rattle.alg_reader.proofs.Nodes.{name_at, chain_found}
+use Rattle.alg_reader.proofs.Rules.{unary_found, power_rule_found, leaf_found, equal_words, domain_words, method_words, use_found, options_found}
+
+-- a word of a method has no options
+word_well : (text : List ℕ) (kind : TokenKind) → IsWellMethod text (method_word kind)
+word_well text kinds.Name = tt
+word_well text (kinds.Number value) = tt
+word_well text kinds.End = tt
+word_well text (kinds.Sign sign) = tt
+word_well text (kinds.Word w) = elim w as (λ w. IsWellMethod text (method_word (kinds.Word w))) [
+  | words.Ring ↦ tt
+  | words.Additive ↦ tt
+  | _ ↦ tt
+]
+
+well_word : (text : List ℕ) (w : Token) → IsWellMethod text (method_word w.kind)
+well_word text w = word_well text w.kind
+
+pub method_found : (text : List ℕ) (x : Value) (ts : List Token) → Found text (grammar rules.Method) x ts
+    → RuleFound text rules.Method (act rules.Method x) ts
+unfolding grammar act
+method_found text x ts (inl (y, z, us, vs, e, s, (w, ew, sw, k, _), h)) =
+    let P : Value → Type 0 = λ v. RuleFound text rules.Method (act rules.Method v) ts in
+    subst P (sym (e ∙ ap (λ v. two v z) ew)) (
+      nsatz_of z,
+      w.start,
+      w,
+      vs,
+      refl,
+      s ∙ ap (λ us. us ++ vs) sw,
+      options_found text z vs h,
+      inr (inr (is_nsatz w.kind k)),
+    )
+method_found text x ts (inr (inl (w, ew, sw, k, _))) =
+    let P : Value → Type 0 = λ v. RuleFound text rules.Method (act rules.Method v) ts in
+    subst P (sym ew) (method_word w.kind, w.start, w, [], refl, sw, well_word text w, method_words w (inl k))
+method_found text x ts (inr (inr (w, ew, sw, k, _))) =
+    let P : Value → Type 0 = λ v. RuleFound text rules.Method (act rules.Method v) ts in
+    subst P (sym ew) (method_word w.kind, w.start, w, [], refl, sw, well_word text w, method_words w (inr k))
+
+pub goal_found : (text : List ℕ) (x : Value) (ts : List Token) → Found text (grammar rules.Goal) x ts
+    → KindFound text (act rules.Goal x) ts
+unfolding grammar act
+goal_found text x ts (
+  y,
+  z,
+  us,
+  vs,
+  e,
+  s,
+  (w, ew, _, _, _),
+  (
+    y1,
+    z1,
+    us1,
+    vs1,
+    e1,
+    s1,
+    (t, et, ft),
+    (
+      y2,
+      z2,
+      us2,
+      vs2,
+      e2,
+      s2,
+      (q, eq, _, kq, _),
+      (
+        y3,
+        z3,
+        us3,
+        vs3,
+        e3,
+        s3,
+        (u, eu, fu),
+        (
+          y4,
+          z4,
+          us4,
+          vs4,
+          e4,
+          s4,
+          (b, eb, sb, kb, _),
+          (m, place, v, back, em, sv, well, ring),
+        ),
+      ),
+    ),
+  ),
+) =
+    let P : Value → Type 0 = λ v. KindFound text (act rules.Goal v) ts in
+    let front = us ++ (us1 ++ (us2 ++ us3)) in
+    let tail : vs4 ≡ v ∷ back = sv in
+    let whole : ts ≡ front ++ b ∷ v ∷ back = s ∙ ap (λ r. us ++ r) (s1 ∙ ap (λ r. us1 ++ r) (s2 ∙ ap (λ r. us2 ++ r)
+    (s3 ∙ ap (λ r. us3 ++ r) (s4 ∙ ap (λ r. r ++ vs4) sb ∙ ap (λ r. b ∷ r) tail)
+    ) ∙ sym (append_assoc us2 us3 (b ∷ v ∷ back))) ∙ sym (append_assoc us1 (us2 ++ us3) (b ∷ v ∷ back)))
+    ∙ sym (append_assoc us (us1 ++ (us2 ++ us3)) (b ∷ v ∷ back)) in
+    subst P (sym (e ∙ ap (λ v. two v z) ew ∙ ap (two (one w)) (e1 ∙ ap (λ v. two v z1) et ∙ ap (two (term t))
+    (e2 ∙ ap (λ v. two v z2) eq ∙ ap (two (one q)) (e3 ∙ ap (λ v. two v z3) eu ∙ ap (two (term u))
+    (e4 ∙ ap (λ v. two v z4) eb ∙ ap (two (one b)) em)))))) (
+      raws.Goal (sides t q u) m place,
+      refl,
+      (ft, fu, equal_words q.kind kq, well),
+      (front, b, v, back, whole, is_by b.kind kb, ring),
+    )
+
+-- a dot behind what a kind of statement spells
+spelled_more : (k : RawKind) (us vs ts : List Token) → ts ≡ us ++ vs → IsSpelledKind k us → IsSpelledKind k ts
+spelled_more raws.End us vs ts e h = tt
+spelled_more (raws.Sort kind name char0) us vs ts e h = tt
+spelled_more (raws.Hom name from to) us vs ts e h = tt
+spelled_more (raws.Vars names sort) us vs ts e h = let long = ap length e ∙ length-append us vs in omega arith
+spelled_more (raws.Hyp name sides) us vs ts e h = tt
+spelled_more (raws.Goal sides way place) us vs ts e (front, b, w, back, s, by, ring) = (
+  front,
+  b,
+  w,
+  back ++ vs,
+  e ∙ ap (λ r. r ++ vs) s ∙ append_assoc front (b ∷ w ∷ back) vs,
+  by,
+  ring,
+)
+
+body_found : (text : List ℕ) (x : Value) (ts : List Token) → Found text body x ts → KindFound text x ts
+body_found text x ts (inl h) = h
+body_found text x ts (inr (inl h)) = h
+body_found text x ts (inr (inr (inl h))) = h
+body_found text x ts (inr (inr (inr (inl h)))) = h
+body_found text x ts (inr (inr (inr (inr (inl h))))) = h
+body_found text x ts (inr (inr (inr (inr (inr h))))) = h
+
+pub statement_found : (text : List ℕ) (x : Value) (ts : List Token) → Found text (grammar rules.Statement) x ts
+    → KindFound text (act rules.Statement x) ts
+unfolding grammar act
+statement_found text x ts (y, z, us, vs, e, s, h, (d, ed, _, _, _)) =
+    let (k, ek, found, spells) = body_found text y us h in
+    let P : Value → Type 0 = λ v. KindFound text (act rules.Statement v) ts in
+    subst P (sym (e ∙ ap (two y) ed)) (k, ek, found, spelled_more k us vs ts s spells)
