@@ -11,7 +11,9 @@ use Rattle.alg_tokens.specs.declared.token.Word.{Word}
 use Rattle.alg_reader.specs.Kinds.{variant, word_number}
 use Rattle.alg_reader.specs.Forms.{Form, a, seq, alt, many, rule, Method, Use, Sum, spelled}
 use Rattle.alg_reader.specs.Grammar.{grammar, word, number, option, using, options, body}
-use Rattle.alg_reader.specs.Meaning.{Value, one, two, nothing, act}
+use Rattle.alg_reader.specs.TermMeaning.{Value}
+use Rattle.alg_reader.specs.TermMeaning.{one, two, nothing}
+use Rattle.alg_reader.specs.Meaning.{act}
 use Rattle.alg_reader.specs.Ahead.{nullable, begins, goes_on, rule_goes_on, rule_begins, Starts, Lacks}
 use Rattle.alg_reader.specs.Reading.{Reads, ReadsKept}
 use Rattle.alg_reader.proofs.Ahead.{Disjoint}

@@ -16,7 +16,10 @@ use Rattle.alg_reader.specs.Kinds.{variant, code}
 use Rattle.alg_reader.specs.Forms as rules
 use Rattle.alg_reader.specs.Forms.{Rule, Form, a, seq, alt, opt, many, rule, Tree, token, pair, left, right, none, some, end, more, node, spelled}
 use Rattle.alg_reader.specs.Grammar.{grammar, Fits, name, sign, word, body, options}
-use Rattle.alg_reader.specs.Meaning.{Value, one, two, nothing, term, method, span_of, value, act, kind_value, sides, spans, sort_word, method_word, nsatz_of, act_method}
+use Rattle.alg_reader.specs.TermMeaning.{Value, span_of}
+use Rattle.alg_reader.specs.TermMeaning.{one, two, nothing, term, method}
+use Rattle.alg_reader.specs.Meaning.{value, act, kind_value}
+use Rattle.alg_reader.specs.PartMeaning.{sides, spans, sort_word, method_word, nsatz_of, act_method}
 use Rattle.alg_reader.specs.WellRead.{IsNameAt, IsWellMethod}
 use Rattle.alg_reader.proofs.Boundaries.{IsTokenAt}
 use Rattle.alg_reader.proofs.Variants.{is_by, is_nsatz}

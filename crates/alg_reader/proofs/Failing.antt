@@ -10,7 +10,9 @@ use Rattle.alg_reader.specs.Ahead.{nullable, begins, goes_on, Starts, Lacks}
 use Rattle.alg_reader.specs.Reading.{Takes, Stops, Fails, Reads, ReadsKept, ReadsTerm, ReadsStatement, ReadsInside}
 use Rattle.alg_reader.specs.declared.parts.Part.{Part}
 use Rattle.alg_reader.specs.declared.parts.Said.{Said}
-use Rattle.alg_reader.specs.Meaning.{Value, term, kind_value}
+use Rattle.alg_reader.specs.TermMeaning.{Value}
+use Rattle.alg_reader.specs.TermMeaning.{term}
+use Rattle.alg_reader.specs.Meaning.{kind_value}
 use Rattle.alg_reader.specs.Parts.{held, said}
 use Rattle.alg_reader.proofs.Ahead.{Disjoint}
 use Rattle.alg_reader.proofs.ReadSequences.{stops_first, stops_second}

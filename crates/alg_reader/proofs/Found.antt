@@ -16,7 +16,9 @@ use Rattle.alg_reader.specs.Kinds.{variant, code}
 use Rattle.alg_reader.specs.Forms as rules
 use Rattle.alg_reader.specs.Forms.{Rule, Form, a, seq, alt, opt, many, rule, Tree, token, pair, left, right, none, some, end, more, node, spelled}
 use Rattle.alg_reader.specs.Grammar.{grammar, Fits}
-use Rattle.alg_reader.specs.Meaning.{Value, one, two, nothing, term, used, method, value, act, kind_value}
+use Rattle.alg_reader.specs.TermMeaning.{Value}
+use Rattle.alg_reader.specs.TermMeaning.{one, two, nothing, term, used, method}
+use Rattle.alg_reader.specs.Meaning.{value, act, kind_value}
 use Rattle.alg_reader.specs.RawTerms.{names_in, literals_in, exponents_in}
 use Rattle.alg_reader.specs.WellRead.{IsNameAt, IsNumeral, IsWellUse, IsWellMethod}
 use Rattle.alg_reader.proofs.Boundaries.{IsTokenAt}

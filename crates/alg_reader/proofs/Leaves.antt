@@ -12,7 +12,9 @@ use Rattle.alg_reader.specs.Forms.{Sum, Product, Unary, Power, Leaf, a, seq, alt
 use Rattle.alg_reader.specs.Grammar.{grammar, Fits, number, inside as parens}
 use Rattle.alg_reader.specs.Ahead.{begins, goes_on, rule_goes_on, Starts, Lacks}
 use Rattle.alg_reader.specs.Reading.{Takes, Fails, TakesInside, ReadsInside, ReadsTerm}
-use Rattle.alg_reader.specs.Meaning.{Value, one, two, nothing, term, value, act, literal, variable, image, leaf_one, leaf_two, named}
+use Rattle.alg_reader.specs.TermMeaning.{Value, literal, variable, image, leaf_one, leaf_two, named}
+use Rattle.alg_reader.specs.TermMeaning.{one, two, nothing, term}
+use Rattle.alg_reader.specs.Meaning.{value, act}
 use Rattle.alg_reader.proofs.Ahead.{Disjoint}
 use Rattle.alg_reader.proofs.ReadSequences.{an, an-code, takes_seq}
 use Rattle.alg_reader.proofs.ReadChoices.{takes_left, takes_right, takes_some, takes_none}

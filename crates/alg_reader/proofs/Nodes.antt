@@ -27,7 +27,9 @@ use Rattle.alg_reader.specs.Kinds.{variant, code}
 use Rattle.alg_reader.specs.Forms as rules
 use Rattle.alg_reader.specs.Forms.{Rule, Form, a, seq, alt, many, rule}
 use Rattle.alg_reader.specs.Grammar.{grammar, number}
-use Rattle.alg_reader.specs.Meaning.{Value, one, two, nothing, term, used, method, at, span_of, number_of, numeral_of, joined, binary, chain, literal, variable, image, opposite, power_of, raised, named, leaf_one, leaf_two, act_sum, act_unary, act_power, act_leaf, is_unequal, sort_word, method_word}
+use Rattle.alg_reader.specs.TermMeaning.{Value, at, span_of, number_of, numeral_of, joined, binary, chain, literal, variable, image, opposite, power_of, raised, named, leaf_one, leaf_two, act_sum, act_unary, act_power, act_leaf, is_unequal}
+use Rattle.alg_reader.specs.TermMeaning.{one, two, nothing, term, used, method}
+use Rattle.alg_reader.specs.PartMeaning.{sort_word, method_word}
 use Rattle.alg_reader.specs.RawTerms.{Node, fold_raw, names_in, literals_in, exponents_in}
 use Rattle.alg_reader.specs.WellRead.{IsNameAt, IsNumeral, IsWellUse, IsWellMethod, bytes_at}
 use Rattle.alg_reader.proofs.Built.{fold_raw-Var, fold_raw-Int, fold_raw-Neg, fold_raw-Add, fold_raw-Sub, fold_raw-Mul, fold_raw-Div, fold_raw-Pow, fold_raw-Hom}

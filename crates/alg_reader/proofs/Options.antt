@@ -9,7 +9,10 @@ use Rattle.alg_reader.specs.declared.raw.RawUse.{RawUse}
 use Rattle.alg_reader.specs.declared.raw.Span.{Span}
 use Rattle.alg_reader.specs.Forms.{Use, Form, a, seq, many, rule}
 use Rattle.alg_reader.specs.Grammar.{grammar, word, using, inside}
-use Rattle.alg_reader.specs.Meaning.{act, one, used, under, span_of, uses_of}
+use Rattle.alg_reader.specs.Meaning.{act}
+use Rattle.alg_reader.specs.TermMeaning.{one, used}
+use Rattle.alg_reader.specs.PartMeaning.{under, uses_of}
+use Rattle.alg_reader.specs.TermMeaning.{span_of}
 use Rattle.alg_reader.specs.Ahead.{begins, goes_on, rule_goes_on, Starts, Lacks}
 use Rattle.alg_reader.specs.Reading.{Takes, Fails, behind, ReadsAs, ReadsUses}
 use Rattle.alg_reader.proofs.Ahead.{Disjoint}

@@ -10,7 +10,9 @@ use Rattle.alg_reader.specs.Forms.{Unary, Power, Leaf, Form, a, seq, opt, rule, 
 use Rattle.alg_reader.specs.Grammar.{grammar, number}
 use Rattle.alg_reader.specs.Ahead.{begins, goes_on, rule_goes_on, rule_begins, Starts, Lacks}
 use Rattle.alg_reader.specs.Reading.{Takes, Fails}
-use Rattle.alg_reader.specs.Meaning.{one, two, nothing, term, act, opposite, power_of}
+use Rattle.alg_reader.specs.TermMeaning.{one, two, nothing, term}
+use Rattle.alg_reader.specs.Meaning.{act}
+use Rattle.alg_reader.specs.TermMeaning.{opposite, power_of}
 use Rattle.alg_reader.proofs.Ahead.{Disjoint}
 use Rattle.alg_reader.proofs.ReadSequences.{takes_seq}
 use Rattle.alg_reader.proofs.ReadChoices.{takes_left, takes_right, takes_some, takes_none}

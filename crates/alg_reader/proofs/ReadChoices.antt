@@ -7,7 +7,9 @@ use Rattle.alg_reader.specs.Forms.{Rule, Statement, Ring, Sort, Hom, Vars, Hyp, 
 use Rattle.alg_reader.specs.Grammar.{grammar, Fits}
 use Rattle.alg_reader.specs.Ahead.{rule_begins, rule_goes_on, nullable, begins, goes_on, Ends, SameHead, Starts, Lacks}
 use Rattle.alg_reader.specs.Reading.{Takes, Stops}
-use Rattle.alg_reader.specs.Meaning.{Value, one, two, nothing, act}
+use Rattle.alg_reader.specs.TermMeaning.{Value}
+use Rattle.alg_reader.specs.TermMeaning.{one, two, nothing}
+use Rattle.alg_reader.specs.Meaning.{act}
 use Rattle.alg_reader.proofs.Ahead.{Disjoint, same_head_after, starts_with, clash, lacks_clash, same_starts, same_lacks, ends_clash, ends_opt, ends_left, ends_right}
 
 -- ---- choices

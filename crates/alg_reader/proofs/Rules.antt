@@ -26,7 +26,9 @@ use Rattle.alg_reader.specs.Kinds.{variant, code}
 use Rattle.alg_reader.specs.Forms as rules
 use Rattle.alg_reader.specs.Forms.{Rule, Form, a, seq, alt, opt, many, rule}
 use Rattle.alg_reader.specs.Grammar.{grammar, name, number, sign, inside, word, option, using, options, body}
-use Rattle.alg_reader.specs.Meaning.{Value, act_use, under, uses_after, uses_of, option_of, nsatz_of, one, two, nothing, term, used, method, at, span_of, number_of, numeral_of, joined, binary, chain, literal, variable, image, opposite, power_of, raised, named, leaf_one, leaf_two, act_sum, act_unary, act_power, act_leaf, is_unequal, sort_word, method_word}
+use Rattle.alg_reader.specs.TermMeaning.{Value, at, span_of, number_of, numeral_of, joined, binary, chain, literal, variable, image, opposite, power_of, raised, named, leaf_one, leaf_two, act_sum, act_unary, act_power, act_leaf, is_unequal}
+use Rattle.alg_reader.specs.PartMeaning.{act_use, under, uses_after, uses_of, option_of, nsatz_of, sort_word, method_word}
+use Rattle.alg_reader.specs.TermMeaning.{one, two, nothing, term, used, method}
 use Rattle.alg_reader.specs.RawTerms.{Node, fold_raw, names_in, literals_in, exponents_in}
 use Rattle.alg_reader.specs.WellRead.{IsNameAt, IsNumeral, IsOption, IsWellUse, IsWellMethod}
 use Rattle.alg_reader.proofs.Nodes.{name_at, number_at, chain_found, opposite_found, power_found, variable_found, image_found, literal_found}

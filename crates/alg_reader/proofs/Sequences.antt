@@ -7,7 +7,9 @@ use Rattle.alg_reader.specs.Forms.{Rule, Form, a, seq, rule}
 use Rattle.alg_reader.specs.Grammar.{grammar}
 use Rattle.alg_reader.specs.Ahead.{begins, goes_on}
 use Rattle.alg_reader.specs.Reading.{Takes, Fails, Owes}
-use Rattle.alg_reader.specs.Meaning.{Value, two, act}
+use Rattle.alg_reader.specs.TermMeaning.{Value}
+use Rattle.alg_reader.specs.TermMeaning.{two}
+use Rattle.alg_reader.specs.Meaning.{act}
 use Rattle.alg_reader.proofs.Ahead.{Disjoint}
 use Rattle.alg_reader.proofs.ReadSequences.{takes_seq}
 use Rattle.alg_reader.proofs.ReadRows.{takes_rule}

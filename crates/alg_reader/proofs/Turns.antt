@@ -11,7 +11,9 @@ use Rattle.alg_reader.specs.Forms.{Rule, Sum, Product, Unary, Form, a, seq, alt,
 use Rattle.alg_reader.specs.Grammar.{grammar}
 use Rattle.alg_reader.specs.Ahead.{begins, goes_on, rule_goes_on, Starts, Lacks, StartsEither, LacksBoth}
 use Rattle.alg_reader.specs.Reading.{Takes, Fails, turn, Continues}
-use Rattle.alg_reader.specs.Meaning.{Value, one, two, nothing, term, act, act_sum, chain, binary}
+use Rattle.alg_reader.specs.TermMeaning.{Value, act_sum, chain, binary}
+use Rattle.alg_reader.specs.TermMeaning.{one, two, nothing, term}
+use Rattle.alg_reader.specs.Meaning.{act}
 use Rattle.alg_reader.proofs.Ahead.{Disjoint, or_first, or_true}
 use Rattle.alg_reader.proofs.ReadSequences.{takes_token, takes_seq}
 use Rattle.alg_reader.proofs.ReadChoices.{takes_left, takes_right}

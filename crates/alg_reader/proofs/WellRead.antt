@@ -19,7 +19,9 @@ use Rattle.alg_reader.specs.declared.raw.RawKind.{RawKind}
 use Rattle.alg_reader.specs.declared.raw.RawKind.TheVariants as raws
 use Rattle.alg_reader.specs.declared.reading.Raw.{Raw}
 use Rattle.alg_reader.specs.Forms.{Statement, rule}
-use Rattle.alg_reader.specs.Meaning.{Value, sort, hom, vars, hyp, goal, at as node_at, kind_value}
+use Rattle.alg_reader.specs.TermMeaning.{Value, at as node_at}
+use Rattle.alg_reader.specs.TermMeaning.{sort, hom, vars, hyp, goal}
+use Rattle.alg_reader.specs.Meaning.{kind_value}
 use Rattle.alg_reader.specs.RawTerms.{fold_node, fold_raw, depth_of, names_in, literals_in, exponents_in}
 use Rattle.alg_reader.specs.TooDeep.{kept, kept_sides, kept_kind}
 use Rattle.alg_reader.specs.Tokens.{TokensTo, open_with, bar, GoesPast}

@@ -1,6 +1,8 @@
 pub mod Kinds
 pub mod Forms
 pub mod Grammar
+pub mod TermMeaning
+pub mod PartMeaning
 pub mod Meaning
 pub mod Ahead
 pub mod Reading

@@ -6,7 +6,10 @@ use Rattle.alg_tokens.specs.declared.token.TokenKind.TheVariants as kinds
 use Rattle.alg_tokens.specs.declared.token.Sign.TheVariants as signs
 use Rattle.alg_reader.specs.Forms.{Rule, Use, Sum, Form, a, seq, alt, many, rule, Tree, spelled}
 use Rattle.alg_reader.specs.Grammar.{Fits, IsBegun, inside}
-use Rattle.alg_reader.specs.Meaning.{Value, value, one, two, term, used, kind_value, chain, spans, uses_after}
+use Rattle.alg_reader.specs.TermMeaning.{Value, chain}
+use Rattle.alg_reader.specs.Meaning.{value, kind_value}
+use Rattle.alg_reader.specs.TermMeaning.{one, two, term, used}
+use Rattle.alg_reader.specs.PartMeaning.{spans, uses_after}
 use Rattle.alg_reader.specs.Parts.{held, said}
 use Rattle.alg_reader.specs.declared.raw.Span.{Span}
 use Rattle.alg_reader.specs.declared.raw.RawTerm.{RawTerm}
@@ -18,8 +21,7 @@ use Rattle.alg_reader.specs.declared.cursor.Fault.TheVariants.{NoMemory, Unexpec
 use Rattle.alg_reader.specs.Ahead.{Ends, SameHead, begins}
 
 -- The first of the tokens are a derivation from the form, which means x, and the rest follow. Whatever comes after
--- the next token, no other
--- derivation that could end begins here.
+-- the next token, no other derivation that could end begins here.
 pub record Takes (f : Form) (ts rest : List Token) (x : Value) : Type 0 where
   pub tree : Tree
   pub fits : Fits f tree

@@ -56,7 +56,7 @@ impl<'a> Model for Cursor<'a> {
 impl Cursor<'_> {
     ghost use Rattle.alg_reader.specs.Ahead.{Starts, Lacks, StartsEither, LacksBoth};
     ghost use Rattle.alg_reader.specs.Reading.{Reads};
-    ghost use Rattle.alg_reader.specs.Meaning.{one};
+    ghost use Rattle.alg_reader.specs.TermMeaning.{one};
     ghost use Rattle.alg_reader.specs.Grammar.{number};
 
     /// The tokens of a slice, and the end behind them.

@@ -2,7 +2,7 @@
 
 ghost use Rattle.alg_reader.specs.Reading.{ReadsAs, ReadsUse, ReadsUses};
 ghost use Rattle.alg_reader.specs.Grammar.{option, options, using};
-ghost use Rattle.alg_reader.specs.Meaning.{nsatz_of, option_of, uses_of};
+ghost use Rattle.alg_reader.specs.PartMeaning.{nsatz_of, option_of, uses_of};
 
 use crate::cursor::{Cursor, Fault};
 use crate::parts::{numeral_of, span_of};

@@ -2,7 +2,7 @@ use Rattle.std.proofs.Common.{◌∷◌, ◌++◌, [], ap, ◌∙◌}
 use Rattle.alg_tokens.specs.declared.token.TokenKind.TheVariants as kinds
 use Rattle.alg_tokens.specs.declared.token.Sign.TheVariants as signs
 use Rattle.alg_reader.specs.Forms.{rule, Use}
-use Rattle.alg_reader.specs.Meaning.{used}
+use Rattle.alg_reader.specs.TermMeaning.{used}
 use Rattle.alg_reader.specs.Reading.{behind}
 use Rattle.alg_reader.proofs.Failing.{passed_kept}
 use Rattle.alg_reader.proofs.OneToken.{taken}

@@ -2,7 +2,7 @@ use Rattle.std.proofs.Common.{◌≡◌, ◌∷◌, List, sym, subst, arith}
 use Rattle.std.proofs.lemmas.Grind.{common_steps}
 use Rattle.alg_tokens.specs.declared.token.Token.{Token}
 use Rattle.alg_reader.specs.Forms.{a}
-use Rattle.alg_reader.specs.Meaning.{one}
+use Rattle.alg_reader.specs.TermMeaning.{one}
 use Rattle.alg_reader.specs.Reading.{Takes, Stops}
 use Rattle.alg_reader.proofs.ReadSequences.{takes_token, stops_token}
 use Rattle.alg_reader.proofs.cursor.Cursor.expect.Goals as goal

@@ -1,6 +1,6 @@
 use Rattle.std.proofs.Common.{refl}
 use Rattle.alg_reader.specs.Forms.{a}
-use Rattle.alg_reader.specs.Meaning.{one}
+use Rattle.alg_reader.specs.TermMeaning.{one}
 use Rattle.alg_reader.proofs.ReadChoices.{takes_left}
 use Rattle.alg_reader.proofs.OneToken.{taken}
 use Rattle.alg_reader.proofs.Choices.{kinds_apart, right_read}

@@ -2,7 +2,8 @@ use Rattle.std.proofs.Common.{◌≡◌, ◌∷◌, ◌++◌, [], sym, ap, ◌�
 use Rattle.alg_tokens.specs.declared.token.TokenKind.TheVariants as kinds
 use Rattle.alg_tokens.specs.declared.token.Sign.TheVariants as signs
 use Rattle.alg_reader.specs.Forms.{a, many, rule, Use}
-use Rattle.alg_reader.specs.Meaning.{one, two, nothing, used, uses_after}
+use Rattle.alg_reader.specs.TermMeaning.{one, two, nothing, used}
+use Rattle.alg_reader.specs.PartMeaning.{uses_after}
 use Rattle.alg_reader.specs.Reading.{behind}
 use Rattle.alg_reader.proofs.ReadSequences.{takes_seq}
 use Rattle.alg_reader.proofs.ReadRows.{takes_more, takes_end}

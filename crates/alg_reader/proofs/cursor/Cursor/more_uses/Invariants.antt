@@ -4,7 +4,8 @@ use Rattle.alg_tokens.specs.declared.token.TokenKind.TheVariants as kinds
 use Rattle.alg_tokens.specs.declared.token.Sign.TheVariants as signs
 use Rattle.alg_reader.specs.declared.cursor.Fault.{Fault}
 use Rattle.alg_reader.specs.Forms.{a, seq, many, rule, Use}
-use Rattle.alg_reader.specs.Meaning.{Value, uses_after}
+use Rattle.alg_reader.specs.TermMeaning.{Value}
+use Rattle.alg_reader.specs.PartMeaning.{uses_after}
 use Rattle.alg_reader.specs.Reading.{Takes, Fails}
 use Rattle.alg_reader.proofs.cursor.Cursor.more_uses.Given as goal
 

@@ -1,7 +1,8 @@
 use Rattle.std.proofs.Common.{◌∷◌, ◌++◌, [], refl, ap, sym, ◌∙◌, append_assoc, append-nil}
 use Rattle.alg_tokens.specs.declared.token.TokenKind.TheVariants as kinds
 use Rattle.alg_reader.specs.Forms.{a}
-use Rattle.alg_reader.specs.Meaning.{one, two, nothing, spans}
+use Rattle.alg_reader.specs.TermMeaning.{one, two, nothing}
+use Rattle.alg_reader.specs.PartMeaning.{spans}
 use Rattle.alg_reader.proofs.ReadRows.{takes_more, takes_end}
 use Rattle.alg_reader.proofs.OneToken.{taken}
 use Rattle.alg_reader.proofs.cursor.Cursor.names.Goals as goal

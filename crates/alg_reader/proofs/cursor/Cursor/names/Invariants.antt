@@ -2,7 +2,8 @@ use Rattle.std.proofs.Common.{◌≡◌, ◌∷◌, ◌++◌, List, length}
 use Rattle.alg_tokens.specs.declared.token.Token.{Token}
 use Rattle.alg_tokens.specs.declared.token.TokenKind.TheVariants as kinds
 use Rattle.alg_reader.specs.Forms.{a, many}
-use Rattle.alg_reader.specs.Meaning.{Value, spans}
+use Rattle.alg_reader.specs.TermMeaning.{Value}
+use Rattle.alg_reader.specs.PartMeaning.{spans}
 use Rattle.alg_reader.specs.Reading.{Takes}
 use Rattle.alg_reader.proofs.cursor.Cursor.names.Given as goal
 

@@ -2,7 +2,7 @@ use Rattle.std.proofs.Common.{Some, refl, ap}
 use Rattle.alg_tokens.specs.declared.token.TokenKind.TheVariants as kinds
 use Rattle.alg_reader.specs.Forms.{seq}
 use Rattle.alg_reader.specs.Grammar.{word, number, option}
-use Rattle.alg_reader.specs.Meaning.{option_of}
+use Rattle.alg_reader.specs.PartMeaning.{option_of}
 use Rattle.alg_reader.proofs.ReadSequences.{takes_seq}
 use Rattle.alg_reader.proofs.ReadChoices.{takes_some, takes_none}
 use Rattle.alg_reader.proofs.Failing.{passed_kept, fails_second, fails_some}

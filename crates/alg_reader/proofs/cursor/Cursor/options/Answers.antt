@@ -2,7 +2,7 @@ use Rattle.std.proofs.Common.{refl}
 use Rattle.alg_tokens.specs.declared.token.Word.TheVariants as words
 use Rattle.alg_reader.specs.Forms.{seq}
 use Rattle.alg_reader.specs.Grammar.{option, options, using}
-use Rattle.alg_reader.specs.Meaning.{nsatz_of}
+use Rattle.alg_reader.specs.PartMeaning.{nsatz_of}
 use Rattle.alg_reader.proofs.ReadSequences.{takes_seq}
 use Rattle.alg_reader.proofs.Failing.{passed_kept, fails_first, fails_second}
 use Rattle.alg_reader.proofs.Choices.{using_apart, power_apart}

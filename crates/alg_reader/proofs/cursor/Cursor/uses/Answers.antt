@@ -3,7 +3,8 @@ use Rattle.alg_tokens.specs.declared.token.TokenKind.TheVariants as kinds
 use Rattle.alg_tokens.specs.declared.token.Word.TheVariants as words
 use Rattle.alg_reader.specs.declared.raw.RawUse.{RawUse}
 use Rattle.alg_reader.specs.Grammar.{word, using}
-use Rattle.alg_reader.specs.Meaning.{nothing, uses_of}
+use Rattle.alg_reader.specs.TermMeaning.{nothing}
+use Rattle.alg_reader.specs.PartMeaning.{uses_of}
 use Rattle.alg_reader.specs.Reading.{behind, ReadsUses}
 use Rattle.alg_reader.proofs.ReadChoices.{takes_none}
 use Rattle.alg_reader.proofs.Failing.{passed_kept}
