@@ -51,8 +51,12 @@ sort_found text x ts (y, z, us, vs, e, _, h, (y', z', us', vs', e', _, (n, en, _
     elim o [
       | inl (ez, _) ↦ subst P (sym (start ∙ ap (λ v. two (one w) (two (one n) v)) ez))
           (raws.Sort (sort_word w.kind) (span_of n) false, refl, (name_at text n k here, λ h. cc), tt)
-      | inr (c, d, _, _, ez, _, _, _) ↦ subst P (sym (start ∙ ap (λ v. two (one w) (two (one n) v)) ez))
-          (raws.Sort (sort_word w.kind) (span_of n) true, refl, (name_at text n k here, λ h. domain_words w.kind is), tt)
+      | inr (c, d, _, _, ez, _, _, _) ↦ subst P (sym (start ∙ ap (λ v. two (one w) (two (one n) v)) ez)) (
+        raws.Sort (sort_word w.kind) (span_of n) true,
+        refl,
+        (name_at text n k here, λ h. domain_words w.kind is),
+        tt,
+      )
     ]
 
 pub hom_found : (text : List ℕ) (x : Value) (ts : List Token) → Found text (grammar rules.Hom) x ts
@@ -107,8 +111,12 @@ hom_found text x ts (
     let P : Value → Type 0 = λ v. KindFound text (act rules.Hom v) ts in
     subst P (sym (e ∙ ap (λ v. two v z) ew ∙ ap (two (one w)) (e1 ∙ ap (λ v. two v z1) en ∙ ap (two (one n))
     (e2 ∙ ap (λ v. two v z2) ec ∙ ap (two (one c)) (e3 ∙ ap (λ v. two v z3) ef ∙ ap (two (one f))
-    (e4 ∙ ap (λ v. two v z4) er ∙ ap (two (one r)) eg))))))
-    (raws.Hom (span_of n) (span_of f) (span_of g), refl, (name_at text n kn hn, name_at text f kf hf, name_at text g kg hg), tt)
+    (e4 ∙ ap (λ v. two v z4) er ∙ ap (two (one r)) eg)))))) (
+      raws.Hom (span_of n) (span_of f) (span_of g),
+      refl,
+      (name_at text n kn hn, name_at text f kf hf, name_at text g kg hg),
+      tt,
+    )
 
 -- names one after the other
 names_found : (text : List ℕ) (xs : List Value) (ts : List Token) → EachOf (λ y us. Found text name y us) xs ts

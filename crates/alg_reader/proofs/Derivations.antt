@@ -34,7 +34,8 @@ rule_found : (text : List ℕ) (r : Rule) (x : Value) (ts : List Token) → Foun
 unfolding grammar act
 rule_found text rules.Sum x ts h = chain_found text (kinds.Sign signs.Plus) (kinds.Sign signs.Minus) rules.Product x ts
     (λ y us k. k) h
-rule_found text rules.Product x ts h = chain_found text (kinds.Sign signs.Star) (kinds.Sign signs.Slash) rules.Unary x ts
+rule_found text rules.Product x ts h = chain_found text (kinds.Sign signs.Star)
+    (kinds.Sign signs.Slash) rules.Unary x ts
     (λ y us k. k) h
 rule_found text rules.Unary x ts h = unary_found text x ts h
 rule_found text rules.Power x ts h = power_rule_found text x ts h

@@ -60,10 +60,22 @@ range_of bytes kind (value, is) spelled within =
 -- a numeral is in range
 pub number_at : (text : List ℕ) (x : Value) (ts : List Token) → Found text number x ts
     → (t : Token) × (x ≡ one t) × IsInRange (number_of t.kind) × ((1 ≡ code t) ⊎ (2 ≡ code t)) × IsTokenAt text t
-number_at text x ts (inl (t, e, _, k, here)) =
-    (t, e, range_of (bytes_at text (span_of t)) t.kind (is_numeral t.kind (inl k)) here.spelled here.within, inl k, here)
-number_at text x ts (inr (t, e, _, k, here)) =
-    (t, e, range_of (bytes_at text (span_of t)) t.kind (is_numeral t.kind (inr k)) here.spelled here.within, inr k, here)
+number_at text x ts (inl (t, e, _, k, here)) = (
+  t,
+  e,
+  range_of (bytes_at text (span_of t)) t.kind (is_numeral t.kind
+      (inl k)) here.spelled here.within,
+  inl k,
+  here,
+)
+number_at text x ts (inr (t, e, _, k, here)) = (
+  t,
+  e,
+  range_of (bytes_at text (span_of t)) t.kind (is_numeral t.kind
+      (inr k)) here.spelled here.within,
+  inr k,
+  here,
+)
 
 -- ---- nodes
 

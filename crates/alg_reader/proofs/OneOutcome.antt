@@ -76,7 +76,13 @@ one_statement text at raw other (t, ts, to, past, start, (kind, (v, h, s, m), (k
 statement_no_fault : (text : List ℕ) (at : ℕ) (raw : Raw) (fault : Refusal) → StandsAt text at raw
     → IsRead text at (Err (Refused fault)) → ⊥
 unfolding IsRead
-statement_no_fault text at raw fault (t, ts, to, past, _, (kind, (v, h, s, _), _)) (before, stop, (to', _, clear), _, behind) =
+statement_no_fault text at raw fault (t, ts, to, past, _, (kind, (v, h, s, _), _)) (
+  before,
+  stop,
+  (to', _, clear),
+  _,
+  behind,
+) =
     let (front, d, spells, dot, _) = statement_dot v h in
     let whole : t ∷ ts ≡ front ++ d ∷ [] = sym s ∙ spells in
     elim (compare text at raw.stop stop (t ∷ ts) before to to') [
@@ -102,7 +108,8 @@ unfolding IsRead
 end_no_fault text at raw fault (ends, _) ((t ∷ before), stop, ((next, lexeme, _), _, _), _, _) =
     no_end text at t next lexeme ends
 end_no_fault text at raw fault (ends, _) ([], stop, (here, _, _), _, inl other) =
-    let P : ℕ → Type 0 = λ n. IsNext text n (Err fault) in no_fault text at (end_of text) fault ends (subst P (sym here) other)
+    let P : ℕ → Type 0 = λ n. IsNext text n (Err fault) in no_fault text at (end_of text) fault ends (subst P
+    (sym here) other)
 end_no_fault text at raw fault (ends, _) ([], stop, (here, _, _), _, inr (inl (_, some, _))) = some refl
 end_no_fault text at raw fault (ends, _) ([], stop, (here, _, _), _, inr (inr (t, next, lexeme, _, _))) =
     let P : ℕ → Type 0 = λ n. IsNext text n (Ok t) in no_end text at t (subst P (sym here) next) lexeme ends
@@ -152,7 +159,13 @@ one_fault text before stop one other (inr (inr (t, h, _, place, stops))) (inr (i
 two_faults : (text : List ℕ) (at : ℕ) (one other : Refusal) → IsRead text at (Err (Refused one))
     → IsRead text at (Err (Refused other)) → one ≡ other
 unfolding IsRead
-two_faults text at one other (before, stop, (to, past, _), begun, behind) (before', stop', (to', past', _), begun', behind') =
+two_faults text at one other (before, stop, (to, past, _), begun, behind) (
+  before',
+  stop',
+  (to', past', _),
+  begun',
+  behind',
+) =
     elim (compare text at stop stop' before before' to to') [
       | inl (same, place) ↦
           let P : List Token → Type 0 = λ xs. FaultBehind text xs stop' other in

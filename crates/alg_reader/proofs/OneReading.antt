@@ -70,19 +70,35 @@ free_at depth last (b ∷ before) t after past = free_at (open_with depth b.kind
 pub no_bar : (code : Option ℕ) (n : ℕ) → code ≡ None → code ≡ Some n → ⊥
 no_bar code n none some = let clash = ap (λ r. is_none r) (sym none ∙ some) in cc
 
-pub goes_on_there : (text : List ℕ) (before ts : List Token) (t : Token) (after : List Token) (stop : ℕ) (fault : Refusal)
+pub goes_on_there : (text : List ℕ) (before ts : List Token) (t : Token) (after : List Token) (stop : ℕ)
+    (fault : Refusal)
     → ts ≡ before ++ t ∷ after → IsNext text stop (Ok t) → t.kind ≢ kinds.End → GoesPast 0 None ts
     → IsBegun (rule Statement) ts → FaultBehind text before stop fault → ⊥
-goes_on_there text before ts t after stop fault same next lexeme past begun (inl other) = no_fault text stop t fault next other
+goes_on_there text before ts t after stop fault same next lexeme past begun
+    (inl other) = no_fault text stop t fault next other
 goes_on_there text before ts t after stop fault same next lexeme past begun (inr (inl (ends, _, _))) =
     no_end text stop t next lexeme ends
-goes_on_there text before ts t after stop fault same next lexeme past begun (inr (inr (u, other, _, _, inl (_, stuck)))) =
+goes_on_there text before ts t after stop fault same next lexeme past begun (inr (inr (
+  u,
+  other,
+  _,
+  _,
+  inl
+      (_, stuck),
+))) =
     let one = one_token text stop t u next other in
     let whole : ts ≡ (before ++ t ∷ []) ++ after = same ∙ sym (append_assoc before (t ∷ []) after) in
     let here = begun_front (rule Statement) (before ++ t ∷ []) after (subst (IsBegun (rule Statement)) whole begun) in
     let P : Token → Type 0 = λ x. IsBegun (rule Statement) (before ++ x ∷ []) in
     stuck (subst P one here)
-goes_on_there text before ts t after stop fault same next lexeme past begun (inr (inr (u, other, _, _, inr (stops, _)))) =
+goes_on_there text before ts t after stop fault same next lexeme past begun (inr (inr (
+  u,
+  other,
+  _,
+  _,
+  inr
+      (stops, _),
+))) =
     let one = one_token text stop t u next other in
     let free = free_at 0 None before t after (subst (GoesPast 0 None) same past) in
     let P : Token → Type 0 = λ x. bar (open_after 0 before) (last_kind None before) x.kind ≡ None in

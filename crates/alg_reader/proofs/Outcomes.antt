@@ -92,13 +92,15 @@ said_keeps start stop s kind e = (ap (λ x. x.kind) e, ap (λ x. x.too_deep) e)
 
 -- all tokens to the dot are the statement
 whole_statement : (text : List ℕ) (at mid start stop : ℕ) (ts before new : List Token) (t e : Token)
-    (s : Said) (kind : RawKind) → s ≡ said kind → ts ≡ before ++ t ∷ [] → Reaches text at before mid → IsNext text mid (Ok t)
+    (s : Said) (kind : RawKind) → s ≡ said kind → ts ≡ before ++ t ∷ [] → Reaches text at before mid
+    → IsNext text mid (Ok t)
     → t.kind ≢ kinds.End → t.kind ≡ kinds.Sign signs.Dot → Takes (rule Statement) (ts ++ e ∷ []) new (kind_value kind)
     → ((u : Token) (us : List Token) → ts ≡ u ∷ us → start ≡ u.start) → ((us : List Token) (u : Token)
     → ts ≡ us ++ u ∷ [] → stop ≡ u.stop)
     → IsRead text at (Ok (record { kind = s.kind; start = start; stop = stop; too_deep = s.too_deep }))
 unfolding IsRead
-whole_statement text at mid start stop ts before new t e s kind keeps same (to, past, clear) next lexeme dot p starts stops =
+whole_statement text at mid start stop ts before new t e s kind keeps same
+    (to, past, clear) next lexeme dot p starts stops =
     let (front, d, spell, is, none_before) = statement_dot p.tree p.fits in
     let long : before ++ t ∷ (e ∷ []) ≡ front ++ d ∷ new =
     sym (append_assoc before (t ∷ []) (e ∷ [])) ∙ ap (λ us. us ++ e ∷ []) (sym same) ∙ p.cut

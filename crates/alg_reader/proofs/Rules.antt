@@ -141,7 +141,8 @@ domain_words (kinds.Word word) h = elim word as (λ w. (variant (kinds.Word word
     ] h
 
 -- the word of a method that is not nsatz
-pub method_words : (w : Token) → (variant (kinds.Word words.Ring) ≡ code w) ⊎ (variant (kinds.Word words.Field) ≡ code w)
+pub method_words : (w : Token) → (variant (kinds.Word words.Ring) ≡ code w) ⊎ (variant (kinds.Word words.Field)
+    ≡ code w)
     → IsRingUnless w (method_word w.kind)
 method_words w (inl h) = let P : TokenKind → Type 0 = λ k. method_word k ≡ methods.Ring in
     inl (subst P (sym (is_ring w.kind h)) refl)
@@ -149,7 +150,8 @@ method_words w (inr h) = inr (inl (is_field w.kind h))
 
 -- ---- uses
 
-pub use_found : (text : List ℕ) (x : Value) (ts : List Token) → Found text (seq name (opt (inside (rule rules.Use)))) x ts
+pub use_found : (text : List ℕ) (x : Value) (ts : List Token)
+    → Found text (seq name (opt (inside (rule rules.Use)))) x ts
     → (u : RawUse) × (act_use x ≡ used u) × IsWellUse text u
 use_found text x ts (y, z, us, vs, e, _, (n, en, _, k, here), inl (ez, _)) = (
   record { path = []; hyp = span_of n },
@@ -193,7 +195,25 @@ using_found : (text : List ℕ) (x : Value) (ts : List Token) → Found text usi
     → AllByRecursion (IsWellUse text) (uses_of x)
 using_found text x ts (inl (e, _)) = let P : Value → Type 0 = λ v. AllByRecursion (IsWellUse text) (uses_of v) in
     subst P (sym e) tt
-using_found text x ts (inr (y, z, us, vs, e, _, (w, ew, _, _, _), (v, r, us', vs', e', _, (u, eu, f), (xs, er, each)))) =
+using_found text x ts (inr (
+  y,
+  z,
+  us,
+  vs,
+  e,
+  _,
+  (w, ew, _, _, _),
+  (
+    v,
+    r,
+    us',
+    vs',
+    e',
+    _,
+    (u, eu, f),
+    (xs, er, each),
+  ),
+)) =
     let P : Value → Type 0 = λ v. AllByRecursion (IsWellUse text) (uses_of v) in
     subst P (sym (e ∙ ap (λ v. two v z) ew ∙ ap (two (one w)) (e' ∙ ap (λ v. two v r) eu ∙ ap (two (used u)) er)))
     (f, more_found text xs vs' each)

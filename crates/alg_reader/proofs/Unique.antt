@@ -64,7 +64,19 @@ good_use_inside = good_token (kinds.Sign signs.ParenLeft) (seq (rule rules.Use) 
 good_grammar : (r : Rule) → IsGood (grammar r)
 unfolding grammar
 good_grammar rules.Statement = (
-  (tt, (tt, (tt, (tt, (tt, tt, refl, refl, hyp_apart), refl, refl, vars_apart), refl, refl, hom_apart), refl, refl, sort_apart), refl, refl, ring_apart),
+  (
+    tt,
+    (
+      tt,
+      (tt, (tt, (tt, tt, refl, refl, hyp_apart), refl, refl, vars_apart), refl, refl, hom_apart),
+      refl,
+      refl,
+      sort_apart,
+    ),
+    refl,
+    refl,
+    ring_apart,
+  ),
   tt,
   body_then_dot,
 )
@@ -74,8 +86,36 @@ good_grammar rules.Sort = (
   good_token kinds.Name (opt (seq (word words.Char) zero)) ((tt, tt, λ n h h'. cc), refl),
   λ n h h'. cc,
 )
-good_grammar rules.Hom = (tt, (tt, (tt, (tt, (tt, tt, λ n h h'. cc), λ n h h'. cc), λ n h h'. cc), λ n h h'. cc), λ n h h'. cc)
-good_grammar rules.Vars = (tt, (tt, ((tt, refl, λ n h h'. cc), (tt, tt, λ n h h'. cc), names_then_colon), λ n h h'. cc), λ n h h'. cc)
+good_grammar rules.Hom = (
+  tt,
+  (
+    tt,
+    (
+      tt,
+      (
+        tt,
+        (tt, tt, λ n h h'. cc),
+        λ n h h'. cc,
+      ),
+      λ n h h'. cc,
+    ),
+    λ n h h'. cc,
+  ),
+  λ n h h'. cc,
+)
+good_grammar rules.Vars = (
+  tt,
+  (
+    tt,
+    (
+      (tt, refl, λ n h h'. cc),
+      (tt, tt, λ n h h'. cc),
+      names_then_colon,
+    ),
+    λ n h h'. cc,
+  ),
+  λ n h h'. cc,
+)
 good_grammar rules.Hyp = (
   tt,
   (
@@ -97,7 +137,23 @@ good_grammar rules.Hyp = (
   ),
   λ n h h'. cc,
 )
-good_grammar rules.Goal = (tt, (tt, (tt, (tt, (tt, tt, λ n h h'. cc), sum_then_by), λ n h h'. cc), sum_then_equal), λ n h h'. cc)
+good_grammar rules.Goal = (
+  tt,
+  (
+    tt,
+    (
+      tt,
+      (
+        tt,
+        (tt, tt, λ n h h'. cc),
+        sum_then_by,
+      ),
+      λ n h h'. cc,
+    ),
+    sum_then_equal,
+  ),
+  λ n h h'. cc,
+)
 good_grammar rules.Method = (
   (tt, (good_using, (good_option words.Power, good_option words.Limit, limit_apart), using_apart), λ n h h'. cc),
   (tt, tt, refl, refl, λ n h h'. grind arith),
@@ -134,7 +190,8 @@ unique (a k) good (token t) _ r s h k' er es e = absurd k'
 unique (seq f g) good (pair v v') (pair w w') r s h k er es e =
     let e' : spelled v ++ (spelled v' ++ r) ≡ spelled w ++ (spelled w' ++ s) =
     sym (append_assoc (spelled v) (spelled v') r) ∙ e ∙ append_assoc (spelled w) (spelled w') s in
-    let first = unique f good.0 v w _ _ h.0 k.0 (ends_first f g v' r good.2 h.1 er) (ends_first f g w' s good.2 k.1 es) e' in
+    let first = unique f good.0 v w _ _ h.0 k.0 (ends_first f g v' r good.2 h.1 er)
+    (ends_first f g w' s good.2 k.1 es) e' in
     let second = unique g good.1 v' w' r s h.1 k.1 (ends_second f g r er) (ends_second f g s es) first.1 in
     (cc, second.1)
 unique (seq f g) good (pair v v') _ r s h k er es e = absurd k
@@ -161,13 +218,16 @@ unique (many f) good end end r s h k er es e = (refl, e)
 unique (many f) good (more v v') (more w w') r s h k er es e =
     let e' : spelled v ++ (spelled v' ++ r) ≡ spelled w ++ (spelled w' ++ s) =
     sym (append_assoc (spelled v) (spelled v') r) ∙ e ∙ append_assoc (spelled w) (spelled w') s in
-    let first = unique f good.0 v w _ _ h.0 k.0 (ends_turn f good.1 good.2 v' r h.1 er) (ends_turn f good.1 good.2 w' s k.1 es) e' in
+    let first = unique f good.0 v w _ _ h.0 k.0 (ends_turn f good.1 good.2 v' r h.1 er)
+    (ends_turn f good.1 good.2 w' s k.1 es) e' in
     let second = unique (many f) good v' w' r s h.1 k.1 er es first.1 in
     (cc, second.1)
 unique (many f) good end (more w w') r s h k er es e =
-    absurd (ends_clash f r er (subst (Starts f) (sym (e ∙ append_assoc (spelled w) (spelled w') s)) (starts_with f w (spelled w' ++ s) good.1 k.0)))
+    absurd (ends_clash f r er (subst (Starts f) (sym (e ∙ append_assoc (spelled w) (spelled w') s))
+    (starts_with f w (spelled w' ++ s) good.1 k.0)))
 unique (many f) good (more v v') end r s h k er es e =
-    absurd (ends_clash f s es (subst (Starts f) (sym (append_assoc (spelled v) (spelled v') r) ∙ e) (starts_with f v (spelled v' ++ r) good.1 h.0)))
+    absurd (ends_clash f s es (subst (Starts f) (sym (append_assoc (spelled v) (spelled v') r)
+    ∙ e) (starts_with f v (spelled v' ++ r) good.1 h.0)))
 unique (many f) good end _ r s h k er es e = absurd k
 unique (many f) good (more v v') _ r s h k er es e = absurd k
 unique (rule q) good (node p v) (node p' w) r s h k er es e =

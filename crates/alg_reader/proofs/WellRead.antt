@@ -39,7 +39,14 @@ zero_well : (text : List ℕ) (head : ℕ) → IsWellTerm text (node_at head (In
 unfolding fold_raw fold_node
 zero_well text head = record {
   names = λ k d h. absurd (omega arith);
-  literals = all_of (λ n. (pos 0 ≤ℤ n) × (n ≤ℤ MAX_LITERAL)) (pos 0 ∷ []) ((omega (arith, ints), omega (arith, ints)), tt);
+  literals = all_of (λ n. (pos 0 ≤ℤ n) × (n ≤ℤ MAX_LITERAL)) (pos 0 ∷ []) (
+    (
+      omega (arith, ints),
+      omega
+          (arith, ints),
+    ),
+    tt,
+  );
   exponents = λ k d h. absurd (omega arith);
   depth = omega arith;
 }

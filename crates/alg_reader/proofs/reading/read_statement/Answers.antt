@@ -58,7 +58,8 @@ returns-clause-read c =
 
 -- there is no memory for the tokens, or for what they say
 pub returns-in_err-cut-clause-read : goal.returns-in_err-cut-clause-read
-returns-in_err-cut-clause-read c = passed_no_memory c.args.text.now c.args.at c.from_residual.result c.from_residual.ensures.1
+returns-in_err-cut-clause-read c = passed_no_memory c.args.text.now c.args.at c.from_residual.result
+    c.from_residual.ensures.1
 
 pub returns-in-Err-NoMemory-clause-read : goal.returns-in-Err-NoMemory-clause-read
 returns-in-Err-NoMemory-clause-read c = no_memory c.args.text.now c.args.at

@@ -26,7 +26,8 @@ returns-in_err-left c =
 pub returns-in_err-equal : goal.returns-in_err-equal
 unfolding grammar
 returns-in_err-equal c =
-    let o = owes_less sum_then_equal (owes_token (owes_rule rules.Goal _) c.in_ok-_goal.ensures) c.in_ok-left.ensures.2 in
+    let o = owes_less sum_then_equal (owes_token
+    (owes_rule rules.Goal _) c.in_ok-_goal.ensures) c.in_ok-left.ensures.2 in
     passed_statement (rule rules.Goal) _ _ c.from_residual-in_err-equal.result c.in_err-equal.field-0.0
     c.from_residual-in_err-equal.ensures.1 (fails_token _ o c.in_err-equal.ensures)
 

@@ -42,7 +42,8 @@ pub returns-in_err-relation : goal.returns-in_err-relation
 unfolding grammar
 returns-in_err-relation c =
     let o = owes_less sum_then_relation (owes_token (owes_token (owes_token
-    (owes_rule rules.Hyp _) c.in_ok-_hyp.ensures) c.in_ok-name.ensures) c.in_ok-_colon.ensures) c.in_ok-left.ensures.2 in
+    (owes_rule rules.Hyp _) c.in_ok-_hyp.ensures) c.in_ok-name.ensures) c.in_ok-_colon.ensures)
+    c.in_ok-left.ensures.2 in
     passed_statement (rule rules.Hyp) _ _ c.from_residual-in_err-relation.result c.in_err-relation.field-0.0
     c.from_residual-in_err-relation.ensures.1 (owes_fails _ relation_apart o c.in_err-relation.ensures)
 

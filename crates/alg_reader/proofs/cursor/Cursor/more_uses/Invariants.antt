@@ -11,7 +11,8 @@ use Rattle.alg_reader.proofs.cursor.Cursor.more_uses.Given as goal
 
 -- the uses that are left decide about all of them
 abbrev pub invariant-uses : goal.invariant-uses
-invariant-uses l = ((rest : List Token) (y : Value) → Takes (many (seq (a (kinds.Sign signs.Comma)) (rule Use))) l.self rest y
+invariant-uses l = ((rest : List Token) (y : Value) → Takes (many (seq (a (kinds.Sign signs.Comma))
+    (rule Use))) l.self rest y
     → (x : Value) × Takes (many (seq (a (kinds.Sign signs.Comma)) (rule Use))) l.fn.self rest x
     × (l.uses.items ++ uses_after y ≡ l.fn.first ∷ uses_after x))
     × ((e : Fault) → Fails (many (seq (a (kinds.Sign signs.Comma)) (rule Use))) l.self e

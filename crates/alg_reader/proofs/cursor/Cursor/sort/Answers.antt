@@ -31,7 +31,8 @@ returns-in_err-name c =
 pub returns-then-not-sees : goal.returns-then-not-sees
 unfolding grammar act
 returns-then-not-sees c =
-    let o = owes_token (owes_less (λ n h h'. cc) (owes_rule rules.Sort _) c.in_ok-word.ensures) c.in_ok-name.ensures in (
+    let o = owes_token (owes_less (λ n h h'. cc)
+    (owes_rule rules.Sort _) c.in_ok-word.ensures) c.in_ok-name.ensures in (
       _,
       c.plain.ensures,
       rw (c.sort_word-kind.ensures, c.span_of-name.ensures) (o.takes _ _ (takes_none (seq
