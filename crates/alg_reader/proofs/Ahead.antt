@@ -1,15 +1,10 @@
 -- One token ahead: how derivations begin, and where they could end.
-use Rattle.std.proofs.Common.{◌≡◌, ℕ, ◌||◌, ◌&&◌, Bool, true, false, List, [], ◌∷◌, ◌++◌, ◌⊎◌, inl, inr, refl, sym, ap, ◌∙◌, subst, append_assoc, append-nil, arith, eq-eqb}
+use Rattle.std.proofs.Common.{◌≡◌, ℕ, ◌||◌, ◌&&◌, Bool, true, false, List, [], ◌∷◌, ◌++◌, ◌⊎◌, inl, inr, refl, sym, ap, subst, arith, eq-eqb}
 use Rattle.alg_tokens.specs.declared.token.Token.{Token}
-use Rattle.alg_tokens.specs.declared.token.TokenKind.{TokenKind}
 use Rattle.alg_reader.specs.Kinds.{variant, code}
 use Rattle.alg_reader.specs.Forms.{Rule, Statement, Ring, Sort, Hom, Vars, Hyp, Goal, Method, Use, Sum, Product, Unary, Power, Leaf, Form, a, seq, alt, opt, many, rule, Tree, token, pair, left, right, none, some, end, more, node, spelled}
 use Rattle.alg_reader.specs.Grammar.{grammar, Fits}
 use Rattle.alg_reader.specs.Ahead.{rule_begins, rule_goes_on, nullable, begins, goes_on, Ends, SameHead, Starts, Lacks}
-use Rattle.alg_reader.specs.Reading.{Takes, Stops}
-use Rattle.alg_reader.specs.TermMeaning.{Value}
-use Rattle.alg_reader.specs.TermMeaning.{one, two, nothing}
-use Rattle.alg_reader.specs.Meaning.{act}
 
 pub or_first : (x y : Bool) → x ≡ true → (x || y) ≡ true
 or_first true y h = refl

@@ -13,9 +13,9 @@ use Rattle.alg_tokens.specs.declared.token.TokenKind.{TokenKind}
 use Rattle.alg_tokens.specs.declared.token.TokenKind.TheVariants as kinds
 use Rattle.alg_tokens.specs.declared.token.Sign.{Sign}
 use Rattle.alg_tokens.specs.declared.token.Sign.TheVariants as signs
-use Rattle.alg_tokens.specs.Spelling.{spelling, sign_spelling}
-use Rattle.alg_tokens.specs.Pieces.{Blank, Lexeme, Spells, is_blank, IsBlank, IsFirst, IsCut}
-use Rattle.alg_tokens.specs.Next.{AreBlanks, StandsIn, IsWithinMax, IsNext}
+use Rattle.alg_tokens.specs.Spelling.{sign_spelling}
+use Rattle.alg_tokens.specs.Pieces.{Blank, Spells, IsBlank, IsFirst, IsCut}
+use Rattle.alg_tokens.specs.Next.{IsWithinMax, IsNext}
 use Rattle.alg_tokens.proofs.Leads.{word_spelled}
 use Rattle.alg_reader.specs.TermMeaning.{span_of}
 use Rattle.alg_reader.specs.Tokens.{TokensTo}

@@ -1,25 +1,19 @@
 -- Readers of choices, and of the parts of statements.
-use Rattle.std.proofs.Common.{◌≡◌, ◌≢◌, ◌==◌, ◌||◌, ◌+◌, false, List, [], ◌∷◌, ◌++◌, refl, sym, ◌∙◌, subst, arith, eqb-true, Result, Ok, Err}
-use Rattle.std.proofs.lemmas.Bool.Decides.{nat_tests}
+use Rattle.std.proofs.Common.{◌≡◌, ◌≢◌, false, List, sym, ◌∙◌, arith, eqb-true, Result, Ok, Err}
 use Rattle.alg_tokens.specs.declared.token.Token.{Token}
 use Rattle.alg_tokens.specs.declared.token.TokenKind.{TokenKind}
 use Rattle.alg_tokens.specs.declared.token.TokenKind.TheVariants as kinds
 use Rattle.alg_tokens.specs.declared.token.Word.TheVariants as words
 use Rattle.alg_tokens.specs.declared.token.Sign.TheVariants as signs
 use Rattle.alg_reader.specs.declared.cursor.Fault.{Fault}
-use Rattle.alg_tokens.specs.declared.token.Word.{Word}
-use Rattle.alg_reader.specs.Kinds.{variant, word_number}
-use Rattle.alg_reader.specs.Forms.{Form, a, seq, alt, many, rule, Method, Use, Sum, spelled}
-use Rattle.alg_reader.specs.Grammar.{grammar, word, number, option, using, options, body}
+use Rattle.alg_reader.specs.Kinds.{variant}
+use Rattle.alg_reader.specs.Forms.{Form, a, seq, alt, many, rule, Method, Sum}
+use Rattle.alg_reader.specs.Grammar.{word, option, using, options, body}
 use Rattle.alg_reader.specs.TermMeaning.{Value}
-use Rattle.alg_reader.specs.TermMeaning.{one, two, nothing}
-use Rattle.alg_reader.specs.Meaning.{act}
 use Rattle.alg_reader.specs.Ahead.{nullable, begins, goes_on, rule_goes_on, rule_begins, Starts, Lacks}
 use Rattle.alg_reader.specs.Reading.{Reads, ReadsKept}
 use Rattle.alg_reader.proofs.Ahead.{Disjoint}
-use Rattle.alg_reader.proofs.ReadSequences.{takes_seq}
-use Rattle.alg_reader.proofs.ReadChoices.{takes_left, takes_right, takes_none}
-use Rattle.alg_reader.proofs.ReadRows.{takes_rule}
+use Rattle.alg_reader.proofs.ReadChoices.{takes_left, takes_right}
 use Rattle.alg_reader.proofs.Failing.{fails_left, fails_right}
 
 -- two kinds of tokens

@@ -1,31 +1,24 @@
 -- What the rules of declarations and hypotheses make of what their parts mean.
-use Rattle.std.proofs.Common.{◌≡◌, ◌≤◌, ℕ, ◌+◌, ◌⊎◌, inl, inr, Bool, true, false, List, [], ◌∷◌, ◌++◌, length, refl, ap, sym, ◌∙◌, subst, arith, append_assoc, append-nil, length-append}
+use Rattle.std.proofs.Common.{◌≡◌, ◌≤◌, ℕ, ◌⊎◌, inl, inr, true, false, List, [], ◌∷◌, ◌++◌, length, refl, ap, sym, ◌∙◌, subst, arith, length-append}
 use Rattle.std.specs.List.{AllByRecursion}
 use Rattle.alg_tokens.specs.declared.token.Token.{Token}
-use Rattle.alg_tokens.specs.declared.token.TokenKind.{TokenKind}
 use Rattle.alg_tokens.specs.declared.token.TokenKind.TheVariants as kinds
 use Rattle.alg_tokens.specs.declared.token.Sign.TheVariants as signs
 use Rattle.alg_tokens.specs.declared.token.Word.TheVariants as words
-use Rattle.alg_reader.specs.declared.raw.Span.{Span}
-use Rattle.alg_reader.specs.declared.raw.RawTerm.{RawTerm}
-use Rattle.alg_reader.specs.declared.raw.RawMethod.{RawMethod}
-use Rattle.alg_reader.specs.declared.raw.RawKind.{RawKind}
 use Rattle.alg_reader.specs.declared.raw.RawKind.TheVariants as raws
 use Rattle.alg_terms.specs.declared.declarations.Kind.TheVariants as sorts
 use Rattle.alg_reader.specs.Kinds.{variant, code}
 use Rattle.alg_reader.specs.Forms as rules
 use Rattle.alg_reader.specs.Forms.{Rule, Form, a, seq, alt, opt, many, rule, Tree, token, pair, left, right, none, some, end, more, node, spelled}
-use Rattle.alg_reader.specs.Grammar.{grammar, Fits, name, sign, word, body, options}
+use Rattle.alg_reader.specs.Grammar.{grammar, name, sign, word}
 use Rattle.alg_reader.specs.TermMeaning.{Value, span_of}
-use Rattle.alg_reader.specs.TermMeaning.{one, two, nothing, term, method}
-use Rattle.alg_reader.specs.Meaning.{value, act, kind_value}
-use Rattle.alg_reader.specs.PartMeaning.{sides, spans, sort_word, method_word, nsatz_of, act_method}
-use Rattle.alg_reader.specs.WellRead.{IsNameAt, IsWellMethod}
-use Rattle.alg_reader.proofs.Boundaries.{IsTokenAt}
-use Rattle.alg_reader.proofs.Variants.{is_by, is_nsatz}
-use Rattle.alg_reader.proofs.Found.{all_split, row, EachOf, IsFoundTerm, IsFoundKind, IsSpelledKind, IsRingUnless, TermFound, KindFound, RuleFound, Found}
-use Rattle.alg_reader.proofs.Nodes.{name_at, chain_found}
-use Rattle.alg_reader.proofs.Rules.{unary_found, power_rule_found, leaf_found, equal_words, domain_words, method_words, use_found, options_found}
+use Rattle.alg_reader.specs.TermMeaning.{one, two, term}
+use Rattle.alg_reader.specs.Meaning.{act}
+use Rattle.alg_reader.specs.PartMeaning.{sides, spans, sort_word}
+use Rattle.alg_reader.specs.WellRead.{IsNameAt}
+use Rattle.alg_reader.proofs.Found.{row, EachOf, KindFound, Found}
+use Rattle.alg_reader.proofs.Nodes.{name_at}
+use Rattle.alg_reader.proofs.Rules.{domain_words}
 
 pub ring_found : (text : List ℕ) (x : Value) (ts : List Token) → Found text (grammar rules.Ring) x ts
     → KindFound text (act rules.Ring x) ts

@@ -1,5 +1,5 @@
 -- What the tokens of a text mean: names of the text, and numbers in range.
-use Rattle.std.proofs.Common.{◌≡◌, ◌≤◌, ℕ, zero, suc, ◌<◌, ◌+◌, ◌⊎◌, inl, inr, Bool, true, false, List, [], ◌∷◌, ◌++◌, length, refl, ap, sym, ◌∙◌, subst, arith, append_assoc, append-nil, length-append, Option, Some, None, ℤ, pos, ◌≤ℤ◌}
+use Rattle.std.proofs.Common.{◌≡◌, ◌≤◌, ℕ, zero, suc, ◌⊎◌, true, false, List, [], ◌∷◌, ◌++◌, length, arith, ℤ, pos, ◌≤ℤ◌}
 use Rattle.std.specs.List.{All, AllByRecursion}
 use Rattle.alg_tokens.specs.declared.token.Token.{Token}
 use Rattle.alg_tokens.specs.declared.token.TokenKind.TheVariants as kinds
@@ -15,10 +15,9 @@ use Rattle.alg_reader.specs.declared.raw.RawKind.TheVariants as raws
 use Rattle.alg_reader.specs.Kinds.{variant, code}
 use Rattle.alg_reader.specs.Forms as rules
 use Rattle.alg_reader.specs.Forms.{Rule, Form, a, seq, alt, opt, many, rule, Tree, token, pair, left, right, none, some, end, more, node, spelled}
-use Rattle.alg_reader.specs.Grammar.{grammar, Fits}
 use Rattle.alg_reader.specs.TermMeaning.{Value}
 use Rattle.alg_reader.specs.TermMeaning.{one, two, nothing, term, used, method}
-use Rattle.alg_reader.specs.Meaning.{value, act, kind_value}
+use Rattle.alg_reader.specs.Meaning.{kind_value}
 use Rattle.alg_reader.specs.RawTerms.{names_in, literals_in, exponents_in}
 use Rattle.alg_reader.specs.WellRead.{IsNameAt, IsNumeral, IsWellUse, IsWellMethod}
 use Rattle.alg_reader.proofs.Boundaries.{IsTokenAt}

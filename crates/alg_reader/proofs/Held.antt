@@ -1,5 +1,5 @@
 -- What is held of a node is told by what is held of its parts.
-use Rattle.std.proofs.Common.{◌≡◌, ℕ, List, [], ◌∷◌, ◌+◌, ◌≤◌, ◌<◌, min, max, nat_lt, cond, Bool, true, false, Option, None, Some, refl, sym, ap, ◌∙◌, arith, pos}
+use Rattle.std.proofs.Common.{◌≡◌, ℕ, List, [], ◌∷◌, ◌+◌, ◌≤◌, ◌<◌, min, max, nat_lt, cond, true, false, Option, None, Some, refl, sym, ap, ◌∙◌, arith, pos}
 use Rattle.std.proofs.lemmas.Bool.Decides.{nat_tests}
 use Rattle.std.specs.Option.{option_or}
 use Rattle.alg_tokens.specs.declared.token.Token.{Token}
@@ -8,7 +8,6 @@ use Rattle.alg_tokens.specs.declared.token.TokenKind.TheVariants as kinds
 use Rattle.alg_tokens.specs.declared.token.Sign.{Sign}
 use Rattle.alg_tokens.specs.declared.token.Sign.TheVariants as signs
 use Rattle.alg_reader.specs.declared.parts.Part.{Part}
-use Rattle.alg_reader.specs.declared.parts.Said.{Said}
 use Rattle.alg_reader.specs.declared.raw.RawTerm.{RawTerm}
 use Rattle.alg_reader.specs.declared.raw.RawNode.{RawNode}
 use Rattle.alg_reader.specs.declared.raw.RawNode.TheVariants.{Int, Neg, Add, Sub, Mul, Div, Pow, Hom}
@@ -22,7 +21,7 @@ use Rattle.alg_reader.specs.TooDeep.{node_depths, node_over, first_too_deep, kep
 use Rattle.alg_reader.specs.TermMeaning.{at, joined, binary, image, opposite, opposites, power_of, literal, variable, span_of, numeral_of}
 use Rattle.alg_reader.specs.PartMeaning.{sides}
 use Rattle.alg_reader.specs.Parts.{held, said, HasNoTerms, left_out, over, leaf_part, binary_part, image_part, opposite_part, opposites_part, power_part}
-use Rattle.alg_reader.proofs.Built.{fold_raw-Var, fold_raw-Int, fold_raw-Neg, fold_raw-Add, fold_raw-Sub, fold_raw-Mul, fold_raw-Div, fold_raw-Pow, fold_raw-Hom}
+use Rattle.alg_reader.proofs.Built.{fold_raw-Neg, fold_raw-Add, fold_raw-Sub, fold_raw-Mul, fold_raw-Div, fold_raw-Pow, fold_raw-Hom}
 use Rattle.alg_reader.proofs.Depths.{depth_agrees}
 
 -- nothing after the first

@@ -1,40 +1,25 @@
 -- Nodes and terms of tokens of a text: their names are names, and their numbers in range.
-use Rattle.std.proofs.Common.{◌≡◌, ◌≤◌, ◌<◌, ℕ, ◌+◌, ◌⊎◌, inl, inr, Bool, true, false, List, [], ◌∷◌, ◌++◌, length, refl, ap, sym, ◌∙◌, subst, arith, append_assoc, append-nil, length-append, ℤ, pos, negsuc, ◌≤ℤ◌}
+use Rattle.std.proofs.Common.{◌≡◌, ℕ, ◌⊎◌, inl, inr, List, [], ◌∷◌, ◌++◌, refl, ap, sym, ◌∙◌, subst, arith, ℤ, pos, ◌≤ℤ◌}
 use Rattle.std.specs.List.{AllByRecursion}
 use Rattle.std.proofs.lemmas.Int.{ints}
 use Rattle.alg_tokens.specs.declared.token.Token.{Token}
 use Rattle.alg_tokens.specs.declared.token.TokenKind.{TokenKind}
 use Rattle.alg_tokens.specs.declared.token.TokenKind.TheVariants as kinds
-use Rattle.alg_tokens.specs.declared.token.Sign.{Sign}
 use Rattle.alg_tokens.specs.declared.token.Sign.TheVariants as signs
-use Rattle.alg_tokens.specs.declared.token.Word.{Word}
-use Rattle.alg_tokens.specs.declared.token.Word.TheVariants as words
 use Rattle.alg_tokens.specs.Pieces.{Spells}
 use Rattle.alg_tokens.specs.Next.{IsWithinMax}
-use Rattle.alg_terms.specs.declared.limits.TheConstants.{MAX_LITERAL}
-use Rattle.alg_terms.specs.Kinds.{IsDomain}
-use Rattle.alg_reader.specs.declared.raw.RawNode.TheVariants.{Var, Int, Neg, Add, Sub, Mul, Div, Pow, Hom}
 use Rattle.alg_reader.specs.declared.raw.RawNode.TheOpen.{RawNode-F}
 use Rattle.alg_reader.specs.declared.raw.RawTerm.{RawTerm}
-use Rattle.alg_reader.specs.declared.raw.RawNumber.{RawNumber}
-use Rattle.alg_reader.specs.declared.raw.RawUse.{RawUse}
-use Rattle.alg_reader.specs.declared.raw.Span.{Span}
-use Rattle.alg_reader.specs.declared.raw.RawMethod.{RawMethod}
-use Rattle.alg_reader.specs.declared.raw.RawMethod.TheVariants as methods
-use Rattle.alg_reader.specs.declared.raw.RawKind.{RawKind}
-use Rattle.alg_reader.specs.declared.raw.RawKind.TheVariants as raws
 use Rattle.alg_reader.specs.Kinds.{variant, code}
-use Rattle.alg_reader.specs.Forms as rules
-use Rattle.alg_reader.specs.Forms.{Rule, Form, a, seq, alt, many, rule}
-use Rattle.alg_reader.specs.Grammar.{grammar, number}
-use Rattle.alg_reader.specs.TermMeaning.{Value, at, span_of, number_of, numeral_of, joined, binary, chain, literal, variable, image, opposite, power_of, raised, named, leaf_one, leaf_two, act_sum, act_unary, act_power, act_leaf, is_unequal}
-use Rattle.alg_reader.specs.TermMeaning.{one, two, nothing, term, used, method}
-use Rattle.alg_reader.specs.PartMeaning.{sort_word, method_word}
-use Rattle.alg_reader.specs.RawTerms.{Node, fold_raw, names_in, literals_in, exponents_in}
-use Rattle.alg_reader.specs.WellRead.{IsNameAt, IsNumeral, IsWellUse, IsWellMethod, bytes_at}
+use Rattle.alg_reader.specs.Forms.{Rule, a, seq, alt, many, rule}
+use Rattle.alg_reader.specs.Grammar.{number}
+use Rattle.alg_reader.specs.TermMeaning.{Value, at, span_of, number_of, numeral_of, joined, binary, chain, literal, variable, image, opposite, power_of, act_sum}
+use Rattle.alg_reader.specs.TermMeaning.{one, two, term}
+use Rattle.alg_reader.specs.RawTerms.{Node, fold_raw}
+use Rattle.alg_reader.specs.WellRead.{IsNameAt, IsNumeral, bytes_at}
 use Rattle.alg_reader.proofs.Built.{fold_raw-Var, fold_raw-Int, fold_raw-Neg, fold_raw-Add, fold_raw-Sub, fold_raw-Mul, fold_raw-Div, fold_raw-Pow, fold_raw-Hom}
 use Rattle.alg_reader.proofs.Boundaries.{IsTokenAt}
-use Rattle.alg_reader.proofs.Variants.{is_name, is_numeral, is_paren}
+use Rattle.alg_reader.proofs.Variants.{is_name, is_numeral}
 use Rattle.alg_reader.proofs.Found.{all_append, row, EachOf, IsInRange, IsFoundTerm, TermFound, Found}
 
 -- ---- one token

@@ -8,7 +8,7 @@ use Rattle.alg_reader.specs.Forms.{Form, a, seq, Tree, token, left, right, spell
 use Rattle.alg_reader.specs.Grammar.{Fits, number, zero}
 use Rattle.alg_reader.specs.Ahead.{nullable, begins, Starts, Lacks}
 use Rattle.alg_reader.specs.Reading.{Takes, Stops}
-use Rattle.alg_reader.specs.TermMeaning.{one, two}
+use Rattle.alg_reader.specs.TermMeaning.{one}
 use Rattle.alg_reader.specs.Meaning.{value}
 use Rattle.alg_reader.proofs.Ahead.{Disjoint, or_first}
 use Rattle.alg_reader.proofs.ReadSequences.{takes_token, stops_token}

@@ -7,8 +7,7 @@ use Rattle.alg_tokens.specs.declared.token.TokenKind.{TokenKind}
 use Rattle.alg_tokens.specs.declared.token.TokenKind.TheVariants as kinds
 use Rattle.alg_tokens.specs.declared.token.Sign.TheVariants as signs
 use Rattle.alg_tokens.specs.Next.{IsNext}
-use Rattle.alg_reader.specs.Kinds.{code}
-use Rattle.alg_reader.specs.Forms.{Statement, Form, a, rule, Tree, token, none, end, spelled}
+use Rattle.alg_reader.specs.Forms.{Statement, Form, rule, Tree, spelled}
 use Rattle.alg_reader.specs.Grammar.{Fits, IsBegun}
 use Rattle.alg_reader.specs.Reading.{Takes, Stops}
 use Rattle.alg_reader.specs.Tokens.{TokensTo, open_after, last_kind, bar, GoesPast, HasNoDot, Reaches, IsStatementCut}

@@ -1,24 +1,15 @@
 -- Places in the tokens of a statement: the end, a token at which reading is stuck, and the dot.
-use Rattle.std.proofs.Common.{◌≡◌, ◌≢◌, ℕ, Bool, true, false, ◌&&◌, ◌==◌, not, List, [], ◌∷◌, ◌++◌, ◌⊎◌, inl, inr, length, length-append, drop, refl, ap, sym, ◌∙◌, subst, arith, append_assoc, append-nil, Option, Some, None, is_none, Ok, Err, eq-eqb}
+use Rattle.std.proofs.Common.{◌≡◌, ◌≢◌, ℕ, Bool, true, false, ◌&&◌, ◌==◌, not, List, [], ◌∷◌, ◌++◌, length, length-append, drop, refl, ap, sym, ◌∙◌, arith, Option, Some, Ok, eq-eqb}
 use Rattle.alg_tokens.specs.declared.token.Token.{Token}
-use Rattle.alg_tokens.specs.declared.token.Refusal.{Refusal}
 use Rattle.alg_tokens.specs.declared.token.TokenKind.{TokenKind}
 use Rattle.alg_tokens.specs.declared.token.TokenKind.TheVariants as kinds
 use Rattle.alg_tokens.specs.declared.token.Sign.TheVariants as signs
-use Rattle.alg_tokens.specs.declared.token.Word.TheVariants as words
 use Rattle.alg_tokens.specs.Next.{IsNext}
 use Rattle.alg_reader.specs.Kinds.{variant, code}
 use Rattle.alg_reader.specs.Forms as rules
 use Rattle.alg_reader.specs.Forms.{Rule, Statement, Form, a, seq, alt, opt, many, rule, Tree, token, pair, left, right, none, some, end, more, node, spelled}
-use Rattle.alg_reader.specs.Grammar.{grammar, Fits, IsBegun, body}
-use Rattle.alg_reader.specs.Reading.{Takes, Stops}
-use Rattle.alg_reader.specs.Ahead.{rule_goes_on}
-use Rattle.alg_reader.specs.Tokens.{refusal, refusal_of, TokensTo, open_with, open_after, last_kind, bar, GoesPast, HasNoDot, Reaches, IsStatementCut}
-use Rattle.alg_reader.specs.declared.raw.RawKind.{RawKind}
-use Rattle.alg_reader.specs.Meaning.{kind_value}
-use Rattle.alg_reader.specs.declared.reading.FileEnd.TheVariants.{Refused}
-use Rattle.alg_reader.specs.Statements.{IsRead}
-use Rattle.alg_reader.proofs.Cutting.{tokens_more, past_more}
+use Rattle.alg_reader.specs.Grammar.{grammar, Fits, body}
+use Rattle.alg_reader.specs.Tokens.{TokensTo, open_with, GoesPast, HasNoDot}
 use Rattle.alg_reader.proofs.Variants.{is_dot}
 
 -- ---- places in lists of tokens

@@ -1,14 +1,12 @@
 -- Repetitions and rules, from readers of the parts.
-use Rattle.std.proofs.Common.{◌≡◌, ℕ, ◌||◌, ◌&&◌, Bool, true, false, List, [], ◌∷◌, ◌++◌, ◌⊎◌, inl, inr, refl, sym, ap, ◌∙◌, subst, append_assoc, append-nil, arith, eq-eqb}
+use Rattle.std.proofs.Common.{◌≡◌, false, List, ◌++◌, refl, sym, ap, ◌∙◌, subst, append_assoc, append-nil}
 use Rattle.alg_tokens.specs.declared.token.Token.{Token}
-use Rattle.alg_tokens.specs.declared.token.TokenKind.{TokenKind}
-use Rattle.alg_reader.specs.Kinds.{variant, code}
-use Rattle.alg_reader.specs.Forms.{Rule, Statement, Ring, Sort, Hom, Vars, Hyp, Goal, Method, Use, Sum, Product, Unary, Power, Leaf, Form, a, seq, alt, opt, many, rule, Tree, token, pair, left, right, none, some, end, more, node, spelled}
+use Rattle.alg_reader.specs.Forms.{Rule, Form, many, rule, Tree, end, more, node, spelled}
 use Rattle.alg_reader.specs.Grammar.{grammar, Fits}
-use Rattle.alg_reader.specs.Ahead.{rule_begins, rule_goes_on, nullable, begins, goes_on, Ends, SameHead, Starts, Lacks}
+use Rattle.alg_reader.specs.Ahead.{nullable, begins, goes_on, Ends, SameHead, Starts, Lacks}
 use Rattle.alg_reader.specs.Reading.{Takes, Stops}
 use Rattle.alg_reader.specs.TermMeaning.{Value}
-use Rattle.alg_reader.specs.TermMeaning.{one, two, nothing}
+use Rattle.alg_reader.specs.TermMeaning.{two, nothing}
 use Rattle.alg_reader.specs.Meaning.{act}
 use Rattle.alg_reader.proofs.Ahead.{Disjoint, ends_at, same_head_after, starts_with, lacks_clash, same_starts, same_lacks, ends_clash, ends_opt, ends_rule}
 

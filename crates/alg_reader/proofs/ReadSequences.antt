@@ -1,15 +1,14 @@
 -- A token, and one form after the other, from readers of the parts.
-use Rattle.std.proofs.Common.{◌≡◌, ℕ, ◌||◌, ◌&&◌, Bool, true, false, List, [], ◌∷◌, ◌++◌, ◌⊎◌, inl, inr, refl, sym, ap, ◌∙◌, subst, append_assoc, append-nil, arith, eq-eqb}
+use Rattle.std.proofs.Common.{◌≡◌, List, [], ◌∷◌, ◌++◌, refl, sym, ap, ◌∙◌, append_assoc}
 use Rattle.alg_tokens.specs.declared.token.Token.{Token}
 use Rattle.alg_tokens.specs.declared.token.TokenKind.{TokenKind}
 use Rattle.alg_reader.specs.Kinds.{variant, code}
-use Rattle.alg_reader.specs.Forms.{Rule, Statement, Ring, Sort, Hom, Vars, Hyp, Goal, Method, Use, Sum, Product, Unary, Power, Leaf, Form, a, seq, alt, opt, many, rule, Tree, token, pair, left, right, none, some, end, more, node, spelled}
-use Rattle.alg_reader.specs.Grammar.{grammar, Fits}
-use Rattle.alg_reader.specs.Ahead.{rule_begins, rule_goes_on, nullable, begins, goes_on, Ends, SameHead, Starts, Lacks}
+use Rattle.alg_reader.specs.Forms.{Form, a, seq, Tree, token, pair, spelled}
+use Rattle.alg_reader.specs.Grammar.{Fits}
+use Rattle.alg_reader.specs.Ahead.{begins, goes_on, Ends, SameHead}
 use Rattle.alg_reader.specs.Reading.{Takes, Stops}
 use Rattle.alg_reader.specs.TermMeaning.{Value}
-use Rattle.alg_reader.specs.TermMeaning.{one, two, nothing}
-use Rattle.alg_reader.specs.Meaning.{act}
+use Rattle.alg_reader.specs.TermMeaning.{one, two}
 use Rattle.alg_reader.proofs.Ahead.{Disjoint, ends_first, ends_second, same_head_after}
 
 takes_token_only : (k : TokenKind) (t : Token) (rest : List Token) (v : Tree) (r rest' : List Token)

@@ -5,8 +5,7 @@ use Rattle.alg_tokens.specs.declared.token.Refusal.{Refusal}
 use Rattle.alg_tokens.specs.declared.token.TokenKind.{TokenKind}
 use Rattle.alg_tokens.specs.declared.token.TokenKind.TheVariants as kinds
 use Rattle.alg_tokens.specs.declared.token.Sign.TheVariants as signs
-use Rattle.alg_reader.specs.Kinds.{code}
-use Rattle.alg_reader.specs.Forms.{Statement, a, rule, token, spelled}
+use Rattle.alg_reader.specs.Forms.{Statement, rule, spelled}
 use Rattle.alg_reader.specs.Grammar.{IsBegun}
 use Rattle.alg_reader.specs.Reading.{Stops}
 use Rattle.alg_reader.specs.Ahead.{rule_goes_on}

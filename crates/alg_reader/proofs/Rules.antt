@@ -1,38 +1,25 @@
 -- What each rule makes of what its parts mean.
-use Rattle.std.proofs.Common.{◌≡◌, ◌≤◌, ◌<◌, ℕ, ◌+◌, ◌⊎◌, inl, inr, Bool, true, false, List, [], ◌∷◌, ◌++◌, length, refl, ap, sym, ◌∙◌, subst, arith, append_assoc, append-nil, length-append, ℤ, pos, negsuc, ◌≤ℤ◌}
+use Rattle.std.proofs.Common.{◌≡◌, ℕ, ◌⊎◌, inl, inr, false, List, [], ◌∷◌, refl, ap, sym, ◌∙◌, subst, arith}
 use Rattle.std.specs.List.{AllByRecursion}
 use Rattle.alg_tokens.specs.declared.token.Token.{Token}
 use Rattle.alg_tokens.specs.declared.token.TokenKind.{TokenKind}
 use Rattle.alg_tokens.specs.declared.token.TokenKind.TheVariants as kinds
-use Rattle.alg_tokens.specs.declared.token.Sign.{Sign}
 use Rattle.alg_tokens.specs.declared.token.Sign.TheVariants as signs
 use Rattle.alg_tokens.specs.declared.token.Word.{Word}
 use Rattle.alg_tokens.specs.declared.token.Word.TheVariants as words
-use Rattle.alg_tokens.specs.Pieces.{Spells}
-use Rattle.alg_tokens.specs.Next.{IsWithinMax}
-use Rattle.alg_terms.specs.declared.limits.TheConstants.{MAX_LITERAL}
 use Rattle.alg_terms.specs.Kinds.{IsDomain}
-use Rattle.alg_reader.specs.declared.raw.RawNode.TheVariants.{Var, Int, Neg, Add, Sub, Mul, Div, Pow, Hom}
-use Rattle.alg_reader.specs.declared.raw.RawNode.TheOpen.{RawNode-F}
 use Rattle.alg_reader.specs.declared.raw.RawTerm.{RawTerm}
-use Rattle.alg_reader.specs.declared.raw.RawNumber.{RawNumber}
 use Rattle.alg_reader.specs.declared.raw.RawUse.{RawUse}
-use Rattle.alg_reader.specs.declared.raw.Span.{Span}
-use Rattle.alg_reader.specs.declared.raw.RawMethod.{RawMethod}
 use Rattle.alg_reader.specs.declared.raw.RawMethod.TheVariants as methods
-use Rattle.alg_reader.specs.declared.raw.RawKind.{RawKind}
-use Rattle.alg_reader.specs.declared.raw.RawKind.TheVariants as raws
 use Rattle.alg_reader.specs.Kinds.{variant, code}
 use Rattle.alg_reader.specs.Forms as rules
 use Rattle.alg_reader.specs.Forms.{Rule, Form, a, seq, alt, opt, many, rule}
-use Rattle.alg_reader.specs.Grammar.{grammar, name, number, sign, inside, word, option, using, options, body}
-use Rattle.alg_reader.specs.TermMeaning.{Value, at, span_of, number_of, numeral_of, joined, binary, chain, literal, variable, image, opposite, power_of, raised, named, leaf_one, leaf_two, act_sum, act_unary, act_power, act_leaf, is_unequal}
+use Rattle.alg_reader.specs.Grammar.{name, number, sign, inside, word, option, using, options}
+use Rattle.alg_reader.specs.TermMeaning.{Value, span_of, literal, variable, image, opposite, power_of, named, leaf_one, leaf_two, act_unary, act_power, act_leaf, is_unequal}
 use Rattle.alg_reader.specs.PartMeaning.{act_use, under, uses_after, uses_of, option_of, nsatz_of, sort_word, method_word}
-use Rattle.alg_reader.specs.TermMeaning.{one, two, nothing, term, used, method}
-use Rattle.alg_reader.specs.RawTerms.{Node, fold_raw, names_in, literals_in, exponents_in}
-use Rattle.alg_reader.specs.WellRead.{IsNameAt, IsNumeral, IsOption, IsWellUse, IsWellMethod}
-use Rattle.alg_reader.proofs.Nodes.{name_at, number_at, chain_found, opposite_found, power_found, variable_found, image_found, literal_found}
-use Rattle.alg_reader.proofs.Built.{fold_raw-Var, fold_raw-Int, fold_raw-Neg, fold_raw-Add, fold_raw-Sub, fold_raw-Mul, fold_raw-Div, fold_raw-Pow, fold_raw-Hom}
+use Rattle.alg_reader.specs.TermMeaning.{one, two, term, used}
+use Rattle.alg_reader.specs.WellRead.{IsNameAt, IsOption, IsWellUse, IsWellMethod}
+use Rattle.alg_reader.proofs.Nodes.{name_at, number_at, opposite_found, power_found, variable_found, image_found, literal_found}
 use Rattle.alg_reader.proofs.Boundaries.{IsTokenAt}
 use Rattle.alg_reader.proofs.Variants.{is_name, is_numeral, is_paren, is_ring, is_field}
 use Rattle.alg_reader.proofs.Found.{all_of, all_cons, row, EachOf, IsRingUnless, IsFoundTerm, TermFound, Found}

@@ -8,15 +8,15 @@ use Rattle.alg_tokens.specs.declared.token.Word.{Word}
 use Rattle.alg_tokens.specs.declared.token.Word.TheVariants as words
 use Rattle.alg_reader.specs.Forms as rules
 use Rattle.alg_reader.specs.Forms.{Rule, Form, a, seq, alt, opt, many, rule, Tree, token, pair, left, right, none, some, end, more, node, spelled}
-use Rattle.alg_reader.specs.Grammar.{grammar, Fits, name, zero, number, word, sign, option, using, inside}
-use Rattle.alg_reader.specs.Ahead.{nullable, begins, goes_on, rule_goes_on, rule_begins, Ends, Starts}
+use Rattle.alg_reader.specs.Grammar.{grammar, Fits, zero, number, word, sign, option, using, inside}
+use Rattle.alg_reader.specs.Ahead.{nullable, begins, goes_on, Ends, Starts}
 use Rattle.alg_reader.proofs.Ahead.{Disjoint, ends_first, ends_second, ends_opt, ends_left, ends_right, ends_rule, ends_clash, clash, starts_with}
 use Rattle.alg_reader.proofs.ReadRows.{ends_turn}
 use Rattle.alg_reader.proofs.Powers.{unary_apart, power_apart}
 use Rattle.alg_reader.proofs.Leaves.{close_apart, number_apart, name_apart}
 use Rattle.alg_reader.proofs.OneToken.{numeral_apart}
 use Rattle.alg_reader.proofs.Turns.{sum_apart, product_apart, sum_turn_apart, product_turn_apart}
-use Rattle.alg_reader.proofs.Choices.{relation_apart, sum_then_relation, sum_then_equal, sum_then_by, nsatz_apart, options_apart, using_apart, power_apart as limit_apart, names_then_colon, body_then_dot}
+use Rattle.alg_reader.proofs.Choices.{relation_apart, sum_then_relation, sum_then_equal, sum_then_by, nsatz_apart, using_apart, power_apart as limit_apart, names_then_colon, body_then_dot}
 use Rattle.alg_reader.proofs.Options.{use_then_close, use_then_comma, comma_apart, all_uses}
 use Rattle.alg_reader.proofs.Bodies.{ring_apart, sort_apart, hom_apart, vars_apart, hyp_apart}
 

@@ -1,6 +1,6 @@
 -- What was read is well read.
-use Rattle.std.proofs.Common.{◌≡◌, ◌≢◌, ◌≤◌, ◌<◌, ℕ, ◌+◌, nat_lt, inl, inr, Bool, true, false, cond, List, [], ◌∷◌, ◌++◌, length, refl, ap, sym, ◌∙◌, subst, arith, Option, Some, None, is_none, pos, ◌≤ℤ◌, Ok}
-use Rattle.std.specs.List.{All, AllByRecursion}
+use Rattle.std.proofs.Common.{◌≡◌, ◌≤◌, ℕ, nat_lt, inl, inr, true, false, cond, List, [], ◌∷◌, ◌++◌, length, refl, ap, sym, ◌∙◌, subst, arith, Option, Some, None, is_none, pos, ◌≤ℤ◌}
+use Rattle.std.specs.List.{AllByRecursion}
 use Rattle.std.specs.Str.{IsUtf8, IsCharBoundary}
 use Rattle.std.proofs.lemmas.Bool.Decides.{nat_tests}
 use Rattle.std.proofs.lemmas.Int.{ints}
@@ -24,12 +24,11 @@ use Rattle.alg_reader.specs.TermMeaning.{sort, hom, vars, hyp, goal}
 use Rattle.alg_reader.specs.Meaning.{kind_value}
 use Rattle.alg_reader.specs.RawTerms.{fold_node, fold_raw, depth_of, names_in, literals_in, exponents_in}
 use Rattle.alg_reader.specs.TooDeep.{kept, kept_sides, kept_kind}
-use Rattle.alg_reader.specs.Tokens.{TokensTo, open_with, bar, GoesPast}
-use Rattle.alg_reader.specs.Statements.{end_of, StandsAt, IsRead}
-use Rattle.alg_reader.specs.WellRead.{IsWellTerm, IsWellEquation, IsWellKind, IsWellRead, members_in}
+use Rattle.alg_reader.specs.Tokens.{open_with, bar, GoesPast}
+use Rattle.alg_reader.specs.Statements.{StandsAt, IsRead}
+use Rattle.alg_reader.specs.WellRead.{IsWellTerm, IsWellKind, IsWellRead, members_in}
 use Rattle.alg_reader.specs.Laws.{StatementsAreWellRead}
 use Rattle.alg_reader.proofs.Boundaries.{IsTokenAt, tokens_at, tokens_long}
-use Rattle.alg_reader.proofs.Held.{kept_whole}
 use Rattle.alg_reader.proofs.Found.{all_of, IsFoundTerm, IsRingUnless, IsFoundKind, IsSpelledKind}
 use Rattle.alg_reader.proofs.Derivations.{found}
 

@@ -4,7 +4,6 @@ use Rattle.alg_tokens.specs.declared.token.Token.{Token}
 use Rattle.alg_tokens.specs.declared.token.TokenKind.{TokenKind}
 use Rattle.alg_reader.specs.Kinds.{variant, code}
 use Rattle.alg_reader.specs.Forms.{Rule, Statement, Ring, Sort, Hom, Vars, Hyp, Goal, Method, Use, Sum, Product, Unary, Power, Leaf, Form, a, seq, alt, opt, many, rule}
-use Rattle.alg_reader.specs.TermMeaning.{one, two}
 
 -- the kinds of token that begin a derivation from the rule, and those that could go on with one
 abbrev pub begins_leaf : ℕ → Bool

@@ -3,10 +3,9 @@ use Rattle.std.specs.Prelude.{ℕ}
 use Rattle.alg_reader.specs.declared.raw.RawMethod.{RawMethod}
 use Rattle.alg_reader.specs.declared.raw.RawKind.{RawKind}
 use Rattle.alg_reader.specs.declared.raw.RawKind.TheVariants as raws
-use Rattle.alg_reader.specs.declared.raw.RawNode.TheVariants.{Hom}
 use Rattle.alg_reader.specs.Forms as rules
 use Rattle.alg_reader.specs.Forms.{Rule, Tree, token, pair, left, right, none, some, end, more, node}
-use Rattle.alg_reader.specs.TermMeaning.{Value, act_leaf, act_power, act_sum, act_unary, at, one, two, nothing, sort, hom, vars, hyp, method, goal}
+use Rattle.alg_reader.specs.TermMeaning.{Value, act_leaf, act_power, act_sum, act_unary, one, two, nothing, sort, hom, vars, hyp, method, goal}
 use Rattle.alg_reader.specs.PartMeaning.{act_goal, act_hom, act_hyp, act_method, act_ring, act_sort, act_statement, act_use, act_vars, sides}
 
 unfoldable pub act : Rule → Value → Value

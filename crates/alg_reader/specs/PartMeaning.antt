@@ -13,7 +13,6 @@ use Rattle.alg_reader.specs.declared.raw.Span.{Span}
 use Rattle.alg_reader.specs.declared.raw.RawNumber.{RawNumber}
 use Rattle.alg_reader.specs.declared.raw.RawTerm.{RawTerm}
 use Rattle.alg_reader.specs.declared.raw.RawEquation.{RawEquation}
-use Rattle.alg_reader.specs.Forms.{left, right, more}
 use Rattle.alg_reader.specs.TermMeaning.{Value, at, is_unequal, numeral_of, span_of, one, two, nothing, term, sort, hom, vars, hyp, used, method, goal}
 
 -- the word of a declared sort

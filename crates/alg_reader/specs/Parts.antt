@@ -7,12 +7,12 @@ use Rattle.alg_reader.specs.declared.parts.Part.{Part}
 use Rattle.alg_reader.specs.declared.parts.Said.{Said}
 use Rattle.alg_reader.specs.declared.raw.RawTerm.{RawTerm}
 use Rattle.alg_reader.specs.declared.raw.RawNode.{RawNode}
-use Rattle.alg_reader.specs.declared.raw.RawNode.TheVariants.{Var, Int, Neg, Pow, Hom}
+use Rattle.alg_reader.specs.declared.raw.RawNode.TheVariants.{Int, Neg, Pow, Hom}
 use Rattle.alg_reader.specs.declared.raw.RawKind.{RawKind}
 use Rattle.alg_reader.specs.declared.raw.RawKind.TheVariants as raws
 use Rattle.alg_reader.specs.RawTerms.{depth_of}
 use Rattle.alg_reader.specs.TooDeep.{first_too_deep, kept, kept_kind, first_of_statement}
-use Rattle.alg_reader.specs.TermMeaning.{at, joined, span_of, numeral_of, literal, variable}
+use Rattle.alg_reader.specs.TermMeaning.{at, joined, span_of, numeral_of}
 
 -- what is held of a term: what is kept of it, its depth as far as it counts, and its first too deep node
 unfoldable pub held : RawTerm → Part

@@ -18,7 +18,7 @@ use Rattle.alg_reader.specs.declared.parts.Part.{Part}
 use Rattle.alg_reader.specs.declared.parts.Said.{Said}
 use Rattle.alg_reader.specs.declared.cursor.Fault.{Fault}
 use Rattle.alg_reader.specs.declared.cursor.Fault.TheVariants.{NoMemory, Unexpected}
-use Rattle.alg_reader.specs.Ahead.{Ends, SameHead, begins}
+use Rattle.alg_reader.specs.Ahead.{Ends, SameHead}
 
 -- The first of the tokens are a derivation from the form, which means x, and the rest follow. Whatever comes after
 -- the next token, no other derivation that could end begins here.

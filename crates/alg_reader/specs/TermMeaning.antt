@@ -13,7 +13,6 @@ use Rattle.alg_reader.specs.declared.raw.RawTerm.{RawTerm, roll-RawTerm}
 use Rattle.alg_reader.specs.declared.raw.RawNode.{RawNode}
 use Rattle.alg_reader.specs.declared.raw.RawNode.TheVariants.{Var, Int, Neg, Add, Sub, Mul, Div, Pow, Hom}
 use Rattle.alg_reader.specs.declared.raw.RawEquation.{RawEquation}
-use Rattle.alg_reader.specs.Forms.{token, left, node}
 
 pub data Value : Type 0 where
   one : Token → Value

@@ -1,12 +1,11 @@
-use Rattle.std.proofs.Common.{ap, sym, ◌∙◌, length, arith, refl}
+use Rattle.std.proofs.Common.{ap, sym, ◌∙◌, length, arith}
 use Rattle.alg_reader.proofs.Failing.{takes_less}
-use Rattle.alg_reader.specs.Forms.{rule, Sum, Product, Unary, Power, Leaf}
+use Rattle.alg_reader.specs.Forms.{Sum, Product, Unary, Power, Leaf}
 use Rattle.alg_tokens.specs.declared.token.TokenKind.TheVariants as kinds
 use Rattle.alg_tokens.specs.declared.token.Sign.TheVariants as signs
 use Rattle.alg_reader.proofs.OneToken.{taken, number_taken}
 use Rattle.alg_reader.proofs.Powers.{takes_minus, fails_minus, takes_unsigned, fails_unsigned, takes_base, takes_power, fails_base, fails_exponent}
 use Rattle.alg_reader.proofs.Leaves.{takes_inside, fails_paren, fails_sum_inside, fails_close, takes_number, takes_variable, takes_image, fails_image, group_read}
-use Rattle.alg_reader.specs.TermMeaning.{term}
 use Rattle.alg_reader.proofs.Failing.{passed_term, passed_inside}
 use Rattle.alg_reader.proofs.Chains.{opposites-append}
 use Rattle.alg_reader.specs.Parts.{opposites_part}
