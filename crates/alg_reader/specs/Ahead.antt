@@ -25,6 +25,7 @@ rule_begins Unary n = begins_leaf n || n == 13
 rule_begins Power n = begins_leaf n
 rule_begins Leaf n = begins_leaf n
 
+-- the kinds of token that could go on where a derivation from the rule could end
 unfoldable pub rule_goes_on : Rule → ℕ → Bool
 rule_goes_on Statement n = false
 rule_goes_on Ring n = false
@@ -41,6 +42,7 @@ rule_goes_on Unary n = n == 10 || n == 16
 rule_goes_on Power n = n == 10 || n == 16
 rule_goes_on Leaf n = n == 10
 
+-- the form derives the empty list of tokens
 abbrev pub nullable : Form → Bool
 nullable (a k) = false
 nullable (seq f g) = nullable f && nullable g
@@ -49,6 +51,7 @@ nullable (opt f) = true
 nullable (many f) = true
 nullable (rule r) = false
 
+-- a token of this kind begins a derivation from the form
 abbrev pub begins : Form → ℕ → Bool
 begins (a k) n = variant k == n
 begins (seq f g) n = begins f n || (nullable f && begins g n)
@@ -57,6 +60,7 @@ begins (opt f) n = begins f n
 begins (many f) n = begins f n
 begins (rule r) n = rule_begins r n
 
+-- a token of this kind could go on where a derivation from the form could end
 abbrev pub goes_on : Form → ℕ → Bool
 goes_on (a k) n = false
 goes_on (seq f g) n = goes_on g n || (nullable g && goes_on f n)
@@ -78,6 +82,7 @@ SameHead ts us = (t : Token) × (ts' : List Token) × (us' : List Token) × (ts 
 abbrev pub Starts : Form → List Token → Type 0
 Starts f ts = (t : Token) × (us : List Token) × (ts ≡ t ∷ us) × (begins f (code t) ≡ true)
 
+-- the next token begins no derivation from the form
 abbrev pub Lacks : Form → List Token → Type 0
 Lacks f ts = (t : Token) × (us : List Token) × (ts ≡ t ∷ us) × (begins f (code t) ≡ false)
 
@@ -85,5 +90,6 @@ Lacks f ts = (t : Token) × (us : List Token) × (ts ≡ t ∷ us) × (begins f 
 abbrev pub StartsEither : TokenKind → TokenKind → List Token → Type 0
 StartsEither k l ts = (t : Token) × (us : List Token) × (ts ≡ t ∷ us) × ((variant k ≡ code t) ⊎ (variant l ≡ code t))
 
+-- the next token is of neither kind
 abbrev pub LacksBoth : TokenKind → TokenKind → List Token → Type 0
 LacksBoth k l ts = Lacks (a k) ts × Lacks (a l) ts

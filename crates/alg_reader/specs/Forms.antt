@@ -34,6 +34,7 @@ pub data Form : Type 0 where
   many : Form → Form
   rule : Rule → Form
 
+-- a derivation: the choices that it takes, and its tokens
 pub data Tree : Type 0 where
   token : Token → Tree
   pair : Tree → Tree → Tree
@@ -45,6 +46,7 @@ pub data Tree : Type 0 where
   more : Tree → Tree → Tree
   node : Rule → Tree → Tree
 
+-- the tokens of a derivation, from left to right
 abbrev pub spelled : Tree → List Token
 spelled (token t) = t ∷ []
 spelled (pair v w) = spelled v ++ spelled w

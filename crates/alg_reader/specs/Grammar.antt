@@ -9,12 +9,15 @@ use Rattle.alg_tokens.specs.declared.token.Sign.TheVariants as signs
 use Rattle.alg_reader.specs.Kinds.{variant, code}
 use Rattle.alg_reader.specs.Forms.{Rule, Statement, Ring, Sort, Hom, Vars, Hyp, Goal, Method, Use, Sum, Product, Unary, Power, Leaf, Form, a, seq, alt, opt, many, rule, Tree, token, pair, left, right, none, some, end, more, node, spelled}
 
+-- one reserved word
 abbrev pub word : Word → Form
 word w = a (kinds.Word w)
 
+-- one sign
 abbrev pub sign : Sign → Form
 sign s = a (kinds.Sign s)
 
+-- one name
 abbrev pub name : Form
 name = a kinds.Name
 
@@ -22,6 +25,7 @@ name = a kinds.Name
 abbrev pub zero : Form
 zero = a (kinds.Number (pos 0))
 
+-- any numeral
 abbrev pub number : Form
 number = alt zero (a (kinds.Number (pos 1)))
 
@@ -33,6 +37,7 @@ option w = opt (seq (word w) number)
 abbrev pub using : Form
 using = opt (seq (word words.Using) (seq (rule Use) (many (seq (sign signs.Comma) (rule Use)))))
 
+-- the hypotheses, the power and the limit, each once or not
 abbrev pub options : Form
 options = seq using (seq (option words.Power) (option words.Limit))
 

@@ -24,6 +24,7 @@ sign_number signs.Star = 10
 sign_number signs.Slash = 11
 sign_number signs.Caret = 12
 
+-- the place of a word in their order
 abbrev pub word_number : Word → ℕ
 word_number words.Additive = 0
 word_number words.After = 1
@@ -70,5 +71,6 @@ variant kinds.End = 3
 variant (kinds.Sign sign) = 4 + sign_number sign
 variant (kinds.Word word) = 17 + word_number word
 
+-- the number of a token's kind
 abbrev pub code : Token → ℕ
 code token = variant token.kind

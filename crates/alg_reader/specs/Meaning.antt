@@ -8,6 +8,7 @@ use Rattle.alg_reader.specs.Forms.{Rule, Tree, token, pair, left, right, none, s
 use Rattle.alg_reader.specs.TermMeaning.{Value, act_leaf, act_power, act_sum, act_unary, one, two, nothing, sort, hom, vars, hyp, method, goal}
 use Rattle.alg_reader.specs.PartMeaning.{act_goal, act_hom, act_hyp, act_method, act_ring, act_sort, act_statement, act_use, act_vars, sides}
 
+-- what a rule makes of what its right side means
 unfoldable pub act : Rule → Value → Value
 act rules.Sum v = act_sum v
 act rules.Product v = act_sum v

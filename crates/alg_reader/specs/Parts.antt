@@ -49,15 +49,19 @@ abbrev pub binary_part : Token → Part → Part → Part
 binary_part op left right = over op.start (joined op.kind left.term right.term) (max left.depth right.depth)
     (option_or left.too_deep right.too_deep)
 
+-- of a morphism on a part
 abbrev pub image_part : Token → Part → Part
 image_part name of = over name.start (Hom (span_of name) of.term) of.depth of.too_deep
 
+-- of a negation
 abbrev pub opposite_part : ℕ → Part → Part
 opposite_part head of = over head (Neg of.term) of.depth of.too_deep
 
+-- of a power
 abbrev pub power_part : Token → Part → Token → Part
 power_part caret base exponent = over caret.start (Pow base.term (numeral_of exponent)) base.depth base.too_deep
 
+-- of a negation once for each head, the last head innermost
 abbrev pub opposites_part : List ℕ → Part → Part
 opposites_part [] of = of
 opposites_part (head ∷ heads) of = opposite_part head (opposites_part heads of)

@@ -6,6 +6,7 @@ use Rattle.alg_reader.specs.declared.raw.RawNode.TheOpen.{RawNode-F}
 use Rattle.alg_reader.specs.declared.raw.RawNumber.{RawNumber}
 use Rattle.alg_reader.specs.declared.raw.Span.{Span}
 
+-- one node, with something in the place of each part
 abbrev pub Node : Type 0 → Type 0
 Node X = RawNode-F (ℕ → X) X
 
@@ -80,10 +81,12 @@ names_of_node (RawNode-F.Var name) = name ∷ []
 names_of_node (RawNode-F.Hom name part) = name ∷ []
 names_of_node _ = []
 
+-- the literal of a node
 abbrev pub literals_of_node : {X : Type 0} → Node X → List ℤ
 literals_of_node (RawNode-F.Int n) = n ∷ []
 literals_of_node _ = []
 
+-- the exponent of a node
 abbrev pub exponents_of_node : {X : Type 0} → Node X → List RawNumber
 exponents_of_node (RawNode-F.Pow part exponent) = exponent ∷ []
 exponents_of_node _ = []
@@ -92,8 +95,10 @@ exponents_of_node _ = []
 abbrev pub names_in : RawTerm → List Span
 names_in = fold_raw (λ head node. names_of_node node ++ of_parts node)
 
+-- all literals of a term
 abbrev pub literals_in : RawTerm → List ℤ
 literals_in = fold_raw (λ head node. literals_of_node node ++ of_parts node)
 
+-- all exponents of a term
 abbrev pub exponents_in : RawTerm → List RawNumber
 exponents_in = fold_raw (λ head node. exponents_of_node node ++ of_parts node)

@@ -59,6 +59,7 @@ ReadsKept f keep view old (Err e) new = Fails f old e
 abbrev pub ReadsTerm : Rule → List Token → Result Part Fault → List Token → Type 0
 ReadsTerm r = ReadsKept (rule r) held term
 
+-- what a reader of statements answers
 abbrev pub ReadsStatement : Form → List Token → Result Said Fault → List Token → Type 0
 ReadsStatement f = ReadsKept f said kind_value
 
@@ -71,6 +72,7 @@ abbrev pub TakesInside : List Token → List Token → RawTerm → Type 0
 TakesInside old new t = (p : Token) × (q : Token) × (p.kind ≡ kinds.Sign signs.ParenLeft)
     × Takes (inside (rule Sum)) old new (two (one p) (two (term t) (one q)))
 
+-- what a reader of a sum in parentheses answers
 abbrev pub ReadsInside : List Token → Result Part Fault → List Token → Type 0
 ReadsInside old (Ok p) new = (t : RawTerm) × (p ≡ held t) × TakesInside old new t
 ReadsInside old (Err e) new = Fails (inside (rule Sum)) old e
@@ -94,6 +96,7 @@ pub record Owes (f g : Form) (old now : List Token) (before : Value → Value) :
 abbrev pub ReadsNames : Span → List Token → Result (List Span) Fault → List Token → Type 0
 ReadsNames first = ReadsAs (many (a kinds.Name)) (λ v. first ∷ spans v)
 
+-- what a reader of further uses answers, with the first one
 abbrev pub ReadsUses : RawUse → List Token → Result (List RawUse) Fault → List Token → Type 0
 ReadsUses first = ReadsAs (many (seq (a (kinds.Sign signs.Comma)) (rule Use))) (λ v. first ∷ uses_after v)
 
@@ -101,5 +104,6 @@ ReadsUses first = ReadsAs (many (seq (a (kinds.Sign signs.Comma)) (rule Use))) (
 abbrev pub behind : List Span → RawUse → RawUse
 behind path u = record { path = path ++ u.path; hyp = u.hyp }
 
+-- what a reader of a use answers, behind morphisms that were read
 abbrev pub ReadsUse : List Span → List Token → Result RawUse Fault → List Token → Type 0
 ReadsUse path = ReadsKept (rule Use) (behind path) used

@@ -21,6 +21,7 @@ open_with depth (kinds.Sign signs.ParenLeft) = depth + 1
 open_with depth (kinds.Sign signs.ParenRight) = depth - 1
 open_with depth _ = depth
 
+-- how many parentheses are open after tokens
 abbrev pub open_after : ℕ → List Token → ℕ
 open_after depth [] = depth
 open_after depth (token ∷ tokens) = open_after (open_with depth token.kind) tokens
@@ -71,6 +72,7 @@ IsStatementCut text at tokens fault =
     × (fault ≡ record { code = 5; at = length text }))
     ⊎ LastStops text at tokens fault
 
+-- the fault of a kind of token at a place
 abbrev pub refusal_of : TokenKind → ℕ → Refusal → Refusal
 refusal_of kinds.End at fault = fault
 refusal_of kind at fault = record { code = 4; at = at }

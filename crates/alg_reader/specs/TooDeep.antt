@@ -20,13 +20,16 @@ abbrev pub node_over : ℕ → ℕ → Option ℕ → Depths
 node_over head depth first =
     record { depth = depth; too_deep = option_or first (if nat_lt MAX_DEPTH depth then Some head else None) }
 
+-- a node with one part
 abbrev pub over_one : ℕ → Depths → Depths
 over_one head part = node_over head (1 + part.depth) part.too_deep
 
+-- a node with two parts, the left one first
 abbrev pub over_two : ℕ → Depths → Depths → Depths
 over_two head left right =
     node_over head (1 + max left.depth right.depth) (option_or left.too_deep right.too_deep)
 
+-- one node, by its parts
 abbrev pub node_depths : ℕ → Node Depths → Depths
 node_depths head (RawNode-F.Var name) = node_over head 1 None
 node_depths head (RawNode-F.Int n) = node_over head 1 None
@@ -46,6 +49,7 @@ first_too_deep t = (fold_raw node_depths t).too_deep
 abbrev pub kept : RawTerm → RawTerm
 kept t = if nat_lt MAX_DEPTH (depth_of t) then roll-RawTerm (record { head = t.head; node = Int (pos 0) }) else t
 
+-- what is kept of an equation
 abbrev pub kept_sides : RawEquation → RawEquation
 kept_sides e = record e { left = kept e.left; right = kept e.right }
 
@@ -55,6 +59,7 @@ kept_kind (raws.Hyp name e) = raws.Hyp name (kept_sides e)
 kept_kind (raws.Goal e method method_at) = raws.Goal (kept_sides e) method method_at
 kept_kind kind = kind
 
+-- the first too deep node of an equation: the left side comes first
 abbrev pub first_of_sides : RawEquation → Option ℕ
 first_of_sides e = option_or (first_too_deep e.left) (first_too_deep e.right)
 

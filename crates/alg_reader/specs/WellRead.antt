@@ -39,6 +39,7 @@ pub record IsWellTerm (text : List ℕ) (t : RawTerm) : Type 0 where
   pub exponents : All IsNumeral (exponents_in t)
   pub depth : depth_of t ≤ MAX_DEPTH
 
+-- both sides are terms that were read
 pub record IsWellEquation (text : List ℕ) (e : RawEquation) : Type 0 where
   pub left : IsWellTerm text e.left
   pub right : IsWellTerm text e.right
