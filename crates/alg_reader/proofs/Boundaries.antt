@@ -17,7 +17,7 @@ use Rattle.alg_tokens.specs.Spelling.{sign_spelling}
 use Rattle.alg_tokens.specs.Pieces.{Blank, Spells, IsBlank, IsFirst, IsCut}
 use Rattle.alg_tokens.specs.Next.{IsWithinMax, IsNext}
 use Rattle.alg_tokens.proofs.Leads.{word_spelled}
-use Rattle.alg_reader.specs.TermMeaning.{span_of}
+use Rattle.alg_reader.specs.RawNodes.{span_of}
 use Rattle.alg_reader.specs.Tokens.{TokensTo}
 use Rattle.alg_reader.specs.WellRead.{bytes_at}
 

@@ -6,7 +6,7 @@ use Rattle.alg_reader.specs.declared.raw.RawNode.TheOpen.{RawNode-F}
 use Rattle.alg_reader.specs.declared.raw.RawNumber.{RawNumber}
 use Rattle.alg_reader.specs.declared.raw.Span.{Span}
 use Rattle.alg_reader.specs.RawTerms.{Node, fold_node, fold_raw}
-use Rattle.alg_reader.specs.TermMeaning.{at}
+use Rattle.alg_reader.specs.RawNodes.{at}
 
 module _ {X : Type 0} (node : ℕ → Node X → X) (head : ℕ) where
   pub fold_raw-Var : (name : Span) → fold_raw node (at head (Var name))

@@ -2,7 +2,7 @@
 use Rattle.std.proofs.Common.{◌≡◌, ℕ, ◌+◌, ◌<◌, List, [], ◌∷◌, ◌++◌, length, take, get_or, refl, ap, ◌∙◌, arith}
 use Rattle.std.proofs.lemmas.List.{take_more}
 use Rattle.alg_reader.specs.declared.raw.RawTerm.{RawTerm}
-use Rattle.alg_reader.specs.TermMeaning.{opposite, opposites}
+use Rattle.alg_reader.specs.RawNodes.{opposite, opposites}
 use Rattle.alg_reader.specs.declared.parts.Part.{Part}
 use Rattle.alg_reader.specs.Parts.{opposite_part, opposites_part}
 

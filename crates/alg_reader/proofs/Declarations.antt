@@ -11,7 +11,8 @@ use Rattle.alg_reader.specs.Kinds.{variant, code}
 use Rattle.alg_reader.specs.Forms as rules
 use Rattle.alg_reader.specs.Forms.{Rule, Form, a, seq, alt, opt, many, rule, Tree, token, pair, left, right, none, some, end, more, node, spelled}
 use Rattle.alg_reader.specs.Grammar.{grammar, name, sign, word}
-use Rattle.alg_reader.specs.TermMeaning.{Value, span_of}
+use Rattle.alg_reader.specs.TermMeaning.{Value}
+use Rattle.alg_reader.specs.RawNodes.{span_of}
 use Rattle.alg_reader.specs.TermMeaning.{one, two, term}
 use Rattle.alg_reader.specs.Meaning.{act}
 use Rattle.alg_reader.specs.PartMeaning.{sides, spans, sort_word}

@@ -4,7 +4,7 @@ use Rattle.alg_reader.specs.declared.raw.RawTerm.{RawTerm}
 use Rattle.alg_reader.specs.declared.raw.RawNode.{RawNode, more_of-RawTerm, Var, Int, Neg', Add', Sub', Mul', Div', Pow', Hom'}
 use Rattle.alg_reader.specs.RawTerms.{fold_node, fold_raw, depth_of}
 use Rattle.alg_reader.specs.TooDeep.{node_depths}
-use Rattle.alg_reader.specs.TermMeaning.{at}
+use Rattle.alg_reader.specs.RawNodes.{at}
 
 pub depths_agree : (head : ℕ) (node : RawNode) → (fold_raw node_depths (at head node)).depth ≡ depth_of (at head node)
 unfolding fold_raw fold_node

@@ -18,7 +18,7 @@ use Rattle.alg_reader.specs.declared.raw.RawMethod.{RawMethod}
 use Rattle.alg_reader.specs.declared.raw.Span.{Span}
 use Rattle.alg_reader.specs.RawTerms.{fold_node, fold_raw, node_depth, depth_of}
 use Rattle.alg_reader.specs.TooDeep.{node_depths, node_over, first_too_deep, kept}
-use Rattle.alg_reader.specs.TermMeaning.{at, joined, binary, image, opposite, opposites, power_of, literal, variable, span_of, numeral_of}
+use Rattle.alg_reader.specs.RawNodes.{at, joined, binary, image, opposite, opposites, power_of, literal, variable, span_of, numeral_of}
 use Rattle.alg_reader.specs.PartMeaning.{sides}
 use Rattle.alg_reader.specs.Parts.{held, said, HasNoTerms, left_out, over, leaf_part, binary_part, image_part, opposite_part, opposites_part, power_part}
 use Rattle.alg_reader.proofs.Built.{fold_raw-Neg, fold_raw-Add, fold_raw-Sub, fold_raw-Mul, fold_raw-Div, fold_raw-Pow, fold_raw-Hom}

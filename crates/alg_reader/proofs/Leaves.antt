@@ -12,7 +12,8 @@ use Rattle.alg_reader.specs.Forms.{Sum, Product, Unary, Power, Leaf, a, seq, alt
 use Rattle.alg_reader.specs.Grammar.{grammar, Fits, number, inside as parens}
 use Rattle.alg_reader.specs.Ahead.{begins, goes_on, rule_goes_on, Starts, Lacks}
 use Rattle.alg_reader.specs.Reading.{Takes, Fails, TakesInside, ReadsInside, ReadsTerm}
-use Rattle.alg_reader.specs.TermMeaning.{Value, literal, variable, image, leaf_one, leaf_two, named}
+use Rattle.alg_reader.specs.TermMeaning.{Value, leaf_one, leaf_two, named}
+use Rattle.alg_reader.specs.RawNodes.{literal, variable, image}
 use Rattle.alg_reader.specs.TermMeaning.{one, two, nothing, term}
 use Rattle.alg_reader.specs.Meaning.{value, act}
 use Rattle.alg_reader.proofs.Ahead.{Disjoint}

@@ -13,7 +13,8 @@ use Rattle.alg_reader.specs.declared.raw.RawTerm.{RawTerm}
 use Rattle.alg_reader.specs.Kinds.{variant, code}
 use Rattle.alg_reader.specs.Forms.{Rule, a, seq, alt, many, rule}
 use Rattle.alg_reader.specs.Grammar.{number}
-use Rattle.alg_reader.specs.TermMeaning.{Value, at, span_of, number_of, numeral_of, joined, binary, chain, literal, variable, image, opposite, power_of, act_sum}
+use Rattle.alg_reader.specs.TermMeaning.{Value, chain, act_sum}
+use Rattle.alg_reader.specs.RawNodes.{at, span_of, number_of, numeral_of, joined, binary, literal, variable, image, opposite, power_of}
 use Rattle.alg_reader.specs.TermMeaning.{one, two, term}
 use Rattle.alg_reader.specs.RawTerms.{Node, fold_raw}
 use Rattle.alg_reader.specs.WellRead.{IsNameAt, IsNumeral, bytes_at}

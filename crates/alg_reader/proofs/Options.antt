@@ -12,7 +12,7 @@ use Rattle.alg_reader.specs.Grammar.{grammar, word, using, inside}
 use Rattle.alg_reader.specs.Meaning.{act}
 use Rattle.alg_reader.specs.TermMeaning.{one, used}
 use Rattle.alg_reader.specs.PartMeaning.{under, uses_of}
-use Rattle.alg_reader.specs.TermMeaning.{span_of}
+use Rattle.alg_reader.specs.RawNodes.{span_of}
 use Rattle.alg_reader.specs.Ahead.{begins, goes_on, rule_goes_on, Starts, Lacks}
 use Rattle.alg_reader.specs.Reading.{Takes, Fails, behind, ReadsAs, ReadsUses}
 use Rattle.alg_reader.proofs.Ahead.{Disjoint}

@@ -12,7 +12,7 @@ use Rattle.alg_reader.specs.Ahead.{begins, goes_on, rule_goes_on, rule_begins, S
 use Rattle.alg_reader.specs.Reading.{Takes, Fails}
 use Rattle.alg_reader.specs.TermMeaning.{one, two, nothing, term}
 use Rattle.alg_reader.specs.Meaning.{act}
-use Rattle.alg_reader.specs.TermMeaning.{opposite, power_of}
+use Rattle.alg_reader.specs.RawNodes.{opposite, power_of}
 use Rattle.alg_reader.proofs.Ahead.{Disjoint}
 use Rattle.alg_reader.proofs.ReadSequences.{takes_seq}
 use Rattle.alg_reader.proofs.ReadChoices.{takes_left, takes_right, takes_some, takes_none}

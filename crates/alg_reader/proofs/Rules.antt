@@ -15,7 +15,8 @@ use Rattle.alg_reader.specs.Kinds.{variant, code}
 use Rattle.alg_reader.specs.Forms as rules
 use Rattle.alg_reader.specs.Forms.{Rule, Form, a, seq, alt, opt, many, rule}
 use Rattle.alg_reader.specs.Grammar.{name, number, sign, inside, word, option, using, options}
-use Rattle.alg_reader.specs.TermMeaning.{Value, span_of, literal, variable, image, opposite, power_of, named, leaf_one, leaf_two, act_unary, act_power, act_leaf, is_unequal}
+use Rattle.alg_reader.specs.TermMeaning.{Value, named, leaf_one, leaf_two, act_unary, act_power, act_leaf}
+use Rattle.alg_reader.specs.RawNodes.{span_of, literal, variable, image, opposite, power_of, is_unequal}
 use Rattle.alg_reader.specs.PartMeaning.{act_use, under, uses_after, uses_of, option_of, nsatz_of, sort_word, method_word}
 use Rattle.alg_reader.specs.TermMeaning.{one, two, term, used}
 use Rattle.alg_reader.specs.WellRead.{IsNameAt, IsOption, IsWellUse, IsWellMethod}

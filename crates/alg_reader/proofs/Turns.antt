@@ -11,7 +11,8 @@ use Rattle.alg_reader.specs.Forms.{Rule, Sum, Product, Unary, Form, a, seq, alt,
 use Rattle.alg_reader.specs.Grammar.{grammar}
 use Rattle.alg_reader.specs.Ahead.{begins, goes_on, rule_goes_on, Starts, Lacks, StartsEither, LacksBoth}
 use Rattle.alg_reader.specs.Reading.{Takes, Fails, turn, Continues}
-use Rattle.alg_reader.specs.TermMeaning.{Value, act_sum, chain, binary}
+use Rattle.alg_reader.specs.TermMeaning.{Value, act_sum, chain}
+use Rattle.alg_reader.specs.RawNodes.{binary}
 use Rattle.alg_reader.specs.TermMeaning.{one, two, nothing, term}
 use Rattle.alg_reader.specs.Meaning.{act}
 use Rattle.alg_reader.proofs.Ahead.{Disjoint, or_first, or_true}

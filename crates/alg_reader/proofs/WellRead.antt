@@ -19,7 +19,8 @@ use Rattle.alg_reader.specs.declared.raw.RawKind.{RawKind}
 use Rattle.alg_reader.specs.declared.raw.RawKind.TheVariants as raws
 use Rattle.alg_reader.specs.declared.reading.Raw.{Raw}
 use Rattle.alg_reader.specs.Forms.{Statement, rule}
-use Rattle.alg_reader.specs.TermMeaning.{Value, at as node_at}
+use Rattle.alg_reader.specs.TermMeaning.{Value}
+use Rattle.alg_reader.specs.RawNodes.{at as node_at}
 use Rattle.alg_reader.specs.TermMeaning.{sort, hom, vars, hyp, goal}
 use Rattle.alg_reader.specs.Meaning.{kind_value}
 use Rattle.alg_reader.specs.RawTerms.{fold_node, fold_raw, depth_of, names_in, literals_in, exponents_in}

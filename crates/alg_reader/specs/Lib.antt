@@ -1,6 +1,7 @@
 pub mod Kinds
 pub mod Forms
 pub mod Grammar
+pub mod RawNodes
 pub mod TermMeaning
 pub mod PartMeaning
 pub mod Meaning

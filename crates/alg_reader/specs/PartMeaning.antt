@@ -13,7 +13,8 @@ use Rattle.alg_reader.specs.declared.raw.Span.{Span}
 use Rattle.alg_reader.specs.declared.raw.RawNumber.{RawNumber}
 use Rattle.alg_reader.specs.declared.raw.RawTerm.{RawTerm}
 use Rattle.alg_reader.specs.declared.raw.RawEquation.{RawEquation}
-use Rattle.alg_reader.specs.TermMeaning.{Value, at, is_unequal, numeral_of, span_of, one, two, nothing, term, sort, hom, vars, hyp, used, method, goal}
+use Rattle.alg_reader.specs.TermMeaning.{Value, one, two, nothing, term, sort, hom, vars, hyp, used, method, goal}
+use Rattle.alg_reader.specs.RawNodes.{at, is_unequal, numeral_of, span_of}
 
 -- the word of a declared sort
 abbrev pub sort_word : TokenKind → Kind

@@ -12,7 +12,7 @@ use Rattle.alg_reader.specs.declared.raw.RawKind.{RawKind}
 use Rattle.alg_reader.specs.declared.raw.RawKind.TheVariants as raws
 use Rattle.alg_reader.specs.RawTerms.{depth_of}
 use Rattle.alg_reader.specs.TooDeep.{first_too_deep, kept, kept_kind, first_of_statement}
-use Rattle.alg_reader.specs.TermMeaning.{at, joined, span_of, numeral_of}
+use Rattle.alg_reader.specs.RawNodes.{at, joined, span_of, numeral_of}
 
 -- what is held of a term: what is kept of it, its depth as far as it counts, and its first too deep node
 unfoldable pub held : RawTerm → Part

@@ -2,7 +2,7 @@
 
 ghost use Rattle.std.specs.Prelude.{◌≡◌, ◌<◌, ◌+◌, IfOk, None};
 ghost use Rattle.alg_terms.specs.declared.limits.TheConstants.{MAX_DEPTH};
-ghost use Rattle.alg_reader.specs.TermMeaning as spec;
+ghost use Rattle.alg_reader.specs.RawNodes as spec;
 ghost use Rattle.alg_reader.specs.Parts as parts;
 
 use crate::raw::{RawKind, RawNode, RawNumber, RawTerm, Span};

@@ -9,7 +9,7 @@ ghost use Rattle.alg_reader.specs.Grammar.{body};
 ghost use Rattle.alg_reader.specs.Parts.{said, HasNoTerms};
 ghost use Rattle.alg_reader.specs.Meaning.{method_value};
 ghost use Rattle.alg_reader.specs.PartMeaning.{sides, sort_word, method_word};
-ghost use Rattle.alg_reader.specs.TermMeaning.{is_unequal};
+ghost use Rattle.alg_reader.specs.RawNodes.{is_unequal};
 
 use crate::cursor::{Cursor, Fault};
 use crate::parts::{Part, Said, span_of};

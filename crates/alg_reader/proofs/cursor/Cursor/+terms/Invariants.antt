@@ -6,7 +6,7 @@ use Rattle.alg_reader.specs.declared.raw.RawTerm.{RawTerm}
 use Rattle.alg_reader.specs.declared.cursor.Fault.{Fault}
 use Rattle.alg_reader.specs.Forms.{rule, Sum, Product, Unary}
 use Rattle.alg_reader.specs.TermMeaning.{term}
-use Rattle.alg_reader.specs.TermMeaning.{opposites}
+use Rattle.alg_reader.specs.RawNodes.{opposites}
 use Rattle.alg_reader.specs.Parts.{held}
 use Rattle.alg_reader.specs.Reading.{Takes, Fails, Continues, turn}
 use Rattle.alg_reader.proofs.cursor.Cursor.+terms.Given as goal
