@@ -16,7 +16,7 @@ use Rattle.alg_reader.specs.declared.raw.RawKind.{RawKind}
 use Rattle.alg_reader.specs.declared.raw.RawKind.TheVariants as raws
 use Rattle.alg_reader.specs.declared.raw.RawMethod.{RawMethod}
 use Rattle.alg_reader.specs.declared.raw.Span.{Span}
-use Rattle.alg_reader.specs.RawTerms.{fold_node, fold_raw, node_depth, depth_of}
+use Rattle.alg_reader.specs.RawTerms.{fold_under, fold_raw, node_depth, depth_of}
 use Rattle.alg_reader.specs.TooDeep.{node_depths, node_over, first_too_deep, kept}
 use Rattle.alg_reader.specs.RawNodes.{at, joined, binary, image, opposite, opposites, power_of, literal, variable, span_of, numeral_of}
 use Rattle.alg_reader.specs.PartMeaning.{sides}
@@ -76,11 +76,11 @@ module _ (head : ℕ) (full node : RawNode) (below part : ℕ) (first : Option �
 -- ---- leaves
 
 pub literal_held : (t : Token) → leaf_part (literal t) ≡ held (literal t)
-unfolding held fold_raw fold_node
+unfolding held fold_raw fold_under
 literal_held t = refl
 
 pub variable_held : (t : Token) → leaf_part (variable t) ≡ held (variable t)
-unfolding held fold_raw fold_node
+unfolding held fold_raw fold_under
 variable_held t = refl
 
 -- ---- nodes with one part

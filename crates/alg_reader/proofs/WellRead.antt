@@ -23,7 +23,7 @@ use Rattle.alg_reader.specs.TermMeaning.{Value}
 use Rattle.alg_reader.specs.RawNodes.{at as node_at}
 use Rattle.alg_reader.specs.TermMeaning.{sort, hom, vars, hyp, goal}
 use Rattle.alg_reader.specs.Meaning.{kind_value}
-use Rattle.alg_reader.specs.RawTerms.{fold_node, fold_raw, depth_of, names_in, literals_in, exponents_in}
+use Rattle.alg_reader.specs.RawTerms.{fold_under, fold_raw, depth_of, names_in, literals_in, exponents_in}
 use Rattle.alg_reader.specs.TooDeep.{kept, kept_sides, kept_kind}
 use Rattle.alg_reader.specs.Tokens.{open_with, bar, GoesPast}
 use Rattle.alg_reader.specs.Statements.{StandsAt, IsRead}
@@ -36,7 +36,7 @@ use Rattle.alg_reader.proofs.Derivations.{found}
 -- ---- what is kept of terms
 
 zero_well : (text : List ℕ) (head : ℕ) → IsWellTerm text (node_at head (Int (pos 0)))
-unfolding fold_raw fold_node
+unfolding fold_raw fold_under
 zero_well text head = record {
   names = λ k d h. absurd (omega arith);
   literals = all_of (λ n. (pos 0 ≤ℤ n) × (n ≤ℤ MAX_LITERAL)) (pos 0 ∷ []) (

@@ -27,25 +27,9 @@ fold_under node head (Div' _ (more_of-RawTerm h t _) _ (more_of-RawTerm k u _)) 
 fold_under node head (Pow' _ (more_of-RawTerm h t _) n) = node head (RawNode-F.Pow (fold_under node h t) n)
 fold_under node head (Hom' name _ (more_of-RawTerm h t _)) = node head (RawNode-F.Hom name (fold_under node h t))
 
--- what a node comes to by its head, where `f` says what one node comes to by its head and by what its parts come to
-unfoldable pub fold_node : {X : Type 0} → (ℕ → Node X → X) → ℕ → RawNode → X
-fold_node f head (Var name) = f head (RawNode-F.Var name)
-fold_node f head (Int n) = f head (RawNode-F.Int n)
-fold_node f head (Neg' _ (more_of-RawTerm h t _)) = f head (RawNode-F.Neg (fold_node f h t))
-fold_node f head (Add' _ (more_of-RawTerm h t _) _ (more_of-RawTerm h' u _)) =
-    f head (RawNode-F.Add (fold_node f h t) (fold_node f h' u))
-fold_node f head (Sub' _ (more_of-RawTerm h t _) _ (more_of-RawTerm h' u _)) =
-    f head (RawNode-F.Sub (fold_node f h t) (fold_node f h' u))
-fold_node f head (Mul' _ (more_of-RawTerm h t _) _ (more_of-RawTerm h' u _)) =
-    f head (RawNode-F.Mul (fold_node f h t) (fold_node f h' u))
-fold_node f head (Div' _ (more_of-RawTerm h t _) _ (more_of-RawTerm h' u _)) =
-    f head (RawNode-F.Div (fold_node f h t) (fold_node f h' u))
-fold_node f head (Pow' _ (more_of-RawTerm h t _) n) = f head (RawNode-F.Pow (fold_node f h t) n)
-fold_node f head (Hom' name _ (more_of-RawTerm h t _)) = f head (RawNode-F.Hom name (fold_node f h t))
-
 -- what a term comes to
-unfoldable pub fold_raw : {X : Type 0} → (ℕ → Node X → X) → RawTerm → X
-fold_raw f t = fold_node f t.head t.node
+abbrev pub fold_raw : {X : Type 0} → (ℕ → Node X → X) → RawTerm → X
+fold_raw node t = fold_under node t.head t.node
 
 -- one node's depth, by the depths of its parts
 abbrev pub node_depth : ℕ → Node ℕ → ℕ
