@@ -1,2 +1,3 @@
 pub mod Table
 pub mod Adding
+pub mod Numbered
