@@ -1,7 +1,10 @@
+pub mod Along
+pub mod AtomsIn
 pub mod Images
 pub mod Insertions
 pub mod Leaves
 pub mod Likes
+pub mod Numbering
 pub mod Once
 pub mod Undone
 pub mod Uses

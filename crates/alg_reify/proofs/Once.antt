@@ -43,7 +43,7 @@ atoms_same a b h =
     let var = eqb-true a.var b.var parts.1 in
     λ i. record { path = path i; var = var i }
 
-atoms_decide : (a b : Atom) → Decides (atom_eq a b) (a ≡ b)
+pub atoms_decide : (a b : Atom) → Decides (atom_eq a b) (a ≡ b)
 atoms_decide a b =
     (atoms_same a b, λ e. ap (atom_eq a) (sym e) ∙ all_true (bytes_eq a.path a.path) (a.var == a.var) ((bytes_eq-Decides a.path a.path).1 refl) (eq-eqb a.var a.var refl))
 
