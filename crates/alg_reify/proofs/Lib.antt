@@ -4,6 +4,7 @@ pub mod Images
 pub mod Insertions
 pub mod Leaves
 pub mod Likes
+pub mod Made
 pub mod Numbering
 pub mod Once
 pub mod Undone

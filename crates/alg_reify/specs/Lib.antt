@@ -1,3 +1,4 @@
 pub mod Table
 pub mod Adding
 pub mod Numbered
+pub mod Making
