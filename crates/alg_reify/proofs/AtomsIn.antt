@@ -14,7 +14,7 @@ use Rattle.alg_meaning.specs.PolynomialOf.{poly_of, poly_of_under}
 use Rattle.alg_reify.specs.Table.{leaves}
 use Rattle.alg_reify.proofs.Along.{along-variable, along-constant, along-zero, along-neg, along-plus, along-minus, along-times, along-power, along-under}
 
-both_parts : {X : Type 0} (P : X → Type 0) (xs ys : List X) → ByRecursion P (xs ++ ys) → ByRecursion P xs × ByRecursion P ys
+pub both_parts : {X : Type 0} (P : X → Type 0) (xs ys : List X) → ByRecursion P (xs ++ ys) → ByRecursion P xs × ByRecursion P ys
 both_parts P [] ys h = (tt, h)
 both_parts P (x ∷ xs) ys h = let rest = both_parts P xs ys h.1 in ((h.0, rest.0), rest.1)
 

@@ -7,5 +7,7 @@ pub mod Likes
 pub mod Made
 pub mod Numbering
 pub mod Once
+pub mod Parts
+pub mod Results
 pub mod Undone
 pub mod Uses

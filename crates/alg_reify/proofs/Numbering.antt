@@ -1,5 +1,6 @@
 -- The number of an atom of the table leads back to the atom.
-use Rattle.std.specs.Prelude.{◌≡◌, ℕ, zero, suc, ◌+◌, ◌<◌, Bool, true, false, not, cond, List, [], ◌∷◌, length, slice_index_or, Contains}
+use Rattle.std.specs.Prelude.{◌≡◌, ℕ, zero, suc, ◌+◌, ◌<◌, Bool, true, false, not, cond, List, [], ◌∷◌, length, slice_index_or, Contains, Option, Some, None, position, nat_lt}
+use Rattle.std.proofs.lemmas.Bool.Decides.{nat_tests}
 use Rattle.std.proofs.Common.{refl, sym, ap, subst, ◌∙◌, arith}
 use Rattle.alg_terms.specs.declared.term.Atom.{Atom}
 use Rattle.alg_reify.specs.Table.{atom_eq}
@@ -40,3 +41,16 @@ is_numbered (b ∷ atoms) a (suc k) l is =
 pub contained_numbered : (atoms : List Atom) (a : Atom) → Contains atoms a → IsNumbered atoms a
 contained_numbered atoms a h = is_numbered atoms a h.0 h.1 h.2
 
+
+-- an atom of the table is found
+pub found : (atoms : List Atom) (path same : List ℕ) (var : ℕ) (r : Option ℕ) → same ≡ path →
+    Contains atoms (record { path = path; var = var }) → r ≡ position (atom_eq (record { path = same; var = var })) atoms →
+    r ≡ None → ⊥
+found atoms path same var r e held is none =
+    let P : List ℕ → Type 0 = λ p. r ≡ position (atom_eq (record { path = p; var = var })) atoms in
+    let here = (contained_numbered atoms (record { path = path; var = var }) held).0 in
+    let at : r ≡ position (atom_eq (record { path = path; var = var })) atoms = subst P e is in
+    not_found (number_of atoms (record { path = path; var = var })) (length atoms) here (sym at ∙ none)
+  where
+    not_found : (n m : ℕ) → n < m → cond (nat_lt n m) (Some n) None ≡ None → ⊥
+    not_found n m l h = grind (arith, nat_tests)

@@ -5,8 +5,11 @@
 #![tactic(auto)]
 
 mod atoms;
+mod making;
 #[cfg(test)]
 mod tests;
 
 pub use alg_terms::NoMemory;
+pub use alg_poly::{Overrun, Poly};
 pub use atoms::{Atoms, AtomsEnd, atoms_of};
+pub use making::reify;
