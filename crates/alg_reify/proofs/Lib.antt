@@ -1,5 +1,6 @@
 pub mod Along
 pub mod AtomsIn
+pub mod Held
 pub mod Images
 pub mod Insertions
 pub mod Leaves
@@ -11,3 +12,4 @@ pub mod Parts
 pub mod Results
 pub mod Undone
 pub mod Uses
+pub mod Verdicts

@@ -2,3 +2,5 @@ pub mod Table
 pub mod Adding
 pub mod Numbered
 pub mod Making
+pub mod RingVerdict
+pub mod Laws
