@@ -3,4 +3,5 @@ pub mod Adding
 pub mod Numbered
 pub mod Making
 pub mod RingVerdict
+pub mod Stops
 pub mod Laws
