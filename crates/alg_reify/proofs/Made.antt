@@ -1,6 +1,6 @@
 -- The numbered polynomial of a term by those of its parts, and what it has in common with the polynomial over atoms.
 use Rattle.std.specs.Prelude.{◌≡◌, ℕ, List, [], ◌∷◌, ◌++◌, ℤ, All, Contains}
-use Rattle.std.proofs.Common.{refl, ap, ◌∙◌}
+use Rattle.std.proofs.Common.{refl, sym, ap, ◌∙◌}
 use Rattle.std.proofs.lemmas.List.Elements.{All-weaker, recursion_from_All}
 use Rattle.std.specs.Cmp.{nat_cmp_total}
 use Rattle.std.specs.FinMap.{nat_cmp-IsAntisymmetric}
@@ -21,9 +21,9 @@ use Rattle.alg_reify.specs.Table.{leaves}
 use Rattle.alg_reify.specs.Numbered.{number_of, numbered}
 use Rattle.alg_reify.proofs.Along.{along-variable, along-constant, along-neg, along-plus, along-minus, along-times, along-power, along-under, IsPolynomial-along}
 use Rattle.alg_reify.proofs.AtomsIn.{atoms_in}
-use Rattle.alg_reify.proofs.Images.{image-plus, image-neg, image-minus, image-times, image-term, image-power}
+use Rattle.alg_reify.proofs.Images.{poly_image, image-plus, image-neg, image-minus, image-times, image-term, image-power}
 use Rattle.alg_reify.proofs.Numbering.{atom_at, contained_numbered}
-use Rattle.alg_reify.proofs.Undone.{IsLike, IsLike-trans, like_image}
+use Rattle.alg_reify.proofs.Undone.{IsLike, IsLike-trans, like_image, poly_back}
 
 -- the polynomial of a term under a path, over the numbers of the table
 abbrev pub made : List Atom → List ℕ → Term → PolyOver ℕ
@@ -97,15 +97,34 @@ like_along (f ∷ path) p is =
     (each_always (λ m. Each (λ a. below_first (put_before f a) ≡ a) m)
     (λ m. each_always (λ a. below_first (put_before f a) ≡ a) (comes_back f) m) q))
 
--- where the table holds the atoms, the numbered polynomial is like the one over atoms
-pub like_made : (atoms : List Atom) (path : List ℕ) (t : Term) → All (Contains atoms) (leaves path t) →
-    IsLike (poly_of t) (made atoms path t)
-like_made atoms path t held =
-    let p = poly_of t in
-    let q = poly_of_under path t in
-    let Back : Atom → Type 0 = λ a. atom_at atoms (number_of atoms a) ≡ a in
-    IsLike-trans p q (numbered atoms q) (like_along path p (IsPolynomial-poly_of t))
-    (like_image atom_total atom_anti nat_cmp_total nat_cmp-IsAntisymmetric (number_of atoms) (atom_at atoms) q
-    (IsPolynomial-along path p (IsPolynomial-poly_of t))
-    (atoms_in Back path t (recursion_from_All Back (leaves path t)
-    (All-weaker (Contains atoms) Back (λ a h. (contained_numbered atoms a h).1) (leaves path t) held))))
+module _ (atoms : List Atom) (path : List ℕ) (t : Term) (held : All (Contains atoms) (leaves path t)) where
+  all_back : Each (λ m. Each (λ a. atom_at atoms (number_of atoms a) ≡ a) m) (poly_of_under path t)
+  all_back =
+      let Back : Atom → Type 0 = λ a. atom_at atoms (number_of atoms a) ≡ a in
+      atoms_in Back path t (recursion_from_All Back (leaves path t)
+      (All-weaker (Contains atoms) Back (λ a h. (contained_numbered atoms a h).1) (leaves path t) held))
+
+  is_polynomial : IsPolynomial atom_cmp integers (poly_of_under path t)
+  is_polynomial = IsPolynomial-along path (poly_of t) (IsPolynomial-poly_of t)
+
+  -- where the table holds the atoms, the numbered polynomial is like the one over atoms
+  pub like_made : IsLike (poly_of t) (made atoms path t)
+  like_made =
+      let q = poly_of_under path t in
+      IsLike-trans (poly_of t) q (numbered atoms q) (like_along path (poly_of t) (IsPolynomial-poly_of t))
+      (like_image atom_total atom_anti nat_cmp_total nat_cmp-IsAntisymmetric (number_of atoms) (atom_at atoms) q
+      is_polynomial all_back)
+
+  -- and it tells that one
+  made_back : poly_image nat_cmp atom_cmp (atom_at atoms) (made atoms path t) ≡ poly_of_under path t
+  made_back =
+      poly_back atom_total atom_anti nat_cmp_total nat_cmp-IsAntisymmetric (number_of atoms) (atom_at atoms)
+      (poly_of_under path t) is_polynomial all_back
+
+-- two terms with one numbered polynomial have one polynomial
+pub same_made : (atoms : List Atom) (path : List ℕ) (t u : Term) → All (Contains atoms) (leaves path t) →
+    All (Contains atoms) (leaves path u) → made atoms path t ≡ made atoms path u →
+    poly_of_under path t ≡ poly_of_under path u
+same_made atoms path t u held also same =
+    sym (made_back atoms path t held) ∙ ap (poly_image nat_cmp atom_cmp (atom_at atoms)) same
+    ∙ made_back atoms path u also
