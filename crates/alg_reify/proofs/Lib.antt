@@ -10,6 +10,7 @@ pub mod Numbering
 pub mod Once
 pub mod Parts
 pub mod Results
+pub mod Tried
 pub mod Undone
 pub mod Uses
 pub mod Verdicts

@@ -5,3 +5,4 @@ pub mod Making
 pub mod RingVerdict
 pub mod Stops
 pub mod Laws
+pub mod Tried

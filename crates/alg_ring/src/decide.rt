@@ -1,6 +1,5 @@
 ghost use Rattle.std.specs.Prelude.{◌≡◌, IfOk, IfErr};
 ghost use Rattle.alg_terms.specs.GoalRules.{IsEquation, DividesNowhere};
-ghost use Rattle.alg_terms.specs.Valid.{IsValid};
 ghost use Rattle.alg_reify.specs.RingVerdict.{IsRingVerdict};
 ghost use Rattle.alg_ring.specs.Answers.{verdict_of, Stops, IsComparison};
 
@@ -24,7 +23,6 @@ pub enum RingAnswer {
 /// exactly where the first node of the left side, and then of the right, that breaks a rule breaks
 /// that one. Its cost is that of the two polynomials, and of one comparison for each term.
 pub fn decide_ring(alloc: Global, file: &File, equation: &Equation) -> Result<RingAnswer, Stop>
-    requires valid { IsValid file.now }
     requires equation { IsEquation file.now equation.now }
     requires plain { DividesNowhere equation.now }
     ensures answer { IfOk result (λ a. IsRingVerdict file.now equation.now (verdict_of a)) }

@@ -6,6 +6,8 @@
 
 mod decide;
 pub mod laws;
+#[cfg(test)]
+mod tests;
 
 pub use alg_reify::{Mono, NoMemory, Stop};
 pub use decide::{RingAnswer, decide_ring};
