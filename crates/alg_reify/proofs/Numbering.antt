@@ -41,7 +41,6 @@ is_numbered (b ∷ atoms) a (suc k) l is =
 pub contained_numbered : (atoms : List Atom) (a : Atom) → Contains atoms a → IsNumbered atoms a
 contained_numbered atoms a h = is_numbered atoms a h.0 h.1 h.2
 
-
 -- an atom of the table is found
 pub found : (atoms : List Atom) (path same : List ℕ) (var : ℕ) (r : Option ℕ) → same ≡ path →
     Contains atoms (record { path = path; var = var }) → r ≡ position (atom_eq (record { path = same; var = var })) atoms →

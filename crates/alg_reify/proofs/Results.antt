@@ -154,7 +154,7 @@ module _ (atoms : List Atom) (path : List ℕ) (t x part : Term) (p : PolyOver �
   pub opposite_made : (s : PolyOver ℕ) → IsMade atoms path part p → t ≡ Neg x → s ≡ poly_neg p → IsMade atoms path t s
   opposite_made s h e made_is = (
     made_is ∙ ap (λ q. poly_neg q) h.0 ∙ sym (made-Neg atoms path part)
-    ∙ ap (made atoms path) (sym (e ∙ ap Neg (sym is))),
+        ∙ ap (made atoms path) (sym (e ∙ ap Neg (sym is))),
     sym (after_part t part path path Outcome.Fine (part-Neg path t x part e is) h.1),
   )
 
@@ -177,6 +177,6 @@ pub atom_made : (atoms : List Atom) (path same : List ℕ) (t : Term) (k : ℕ) 
     p ≡ atom_of (number_of atoms (record { path = same; var = k })) → IsMade atoms path t p
 atom_made atoms path same t k p e s is = (
   is ∙ ap (λ x. atom_of (number_of atoms (record { path = x; var = k }))) s ∙ sym (made-Var atoms path k)
-  ∙ ap (made atoms path) (sym e),
+      ∙ ap (made atoms path) (sym e),
   ap term_outcome e ∙ term_outcome-Var k,
 )

@@ -156,21 +156,12 @@ fn side(alloc: Global, k: u64, n: u32, c: u64) -> Result<Term, NoMemory>
         Boxed::new(alloc, Term::Var(X))?,
     );
     let power = Term::Pow(Boxed::new(alloc, base)?, n);
-    let product = Term::Mul(
-        Boxed::new(alloc, power)?,
-        Boxed::new(alloc, Term::Var(X))?,
-    );
+    let product = Term::Mul(Boxed::new(alloc, power)?, Boxed::new(alloc, Term::Var(X))?);
     sum(alloc, product, Term::Int(i128::from(c)))
 }
 
 // (k*x)^n*x + c = (k*x)^n*x + c
-fn tried_equation(
-    alloc: Global,
-    file: &File,
-    k: u64,
-    n: u32,
-    c: u64,
-) -> Result<Equation, NoMemory>
+fn tried_equation(alloc: Global, file: &File, k: u64, n: u32, c: u64) -> Result<Equation, NoMemory>
     requires { 0 < length file.now.vars }
     ensures { IfOk result (λ e. IsEquation file.now e × DividesNowhere e) }
 {
@@ -222,7 +213,11 @@ fn a_polynomial_is_made_within_the_limits(rt: HostRuntime) -> Result<(), Fail> {
         let made = left_side(alloc, &file, &equation)?;
         match (made, want) {
             (Ok(poly), Ok(want)) => {
-                assert_eq!(rt; terms(alloc, &poly)?.as_slice(), want, "k {k}, n {n}, c {c}");
+                assert_eq!(rt;
+                    terms(alloc, &poly)?.as_slice(),
+                    want,
+                    "k {k}, n {n}, c {c}"
+                );
             }
             (Err(end), Err(want)) => assert_eq!(rt; end, want, "k {k}, n {n}, c {c}"),
             _ => panic!(rt; "k {k}, n {n}, c {c}"),

@@ -45,10 +45,7 @@ fn side(alloc: Global, k: u64, n: u32, c: i128) -> Result<Term, NoMemory>
         Boxed::new(alloc, Term::Var(0))?,
     );
     let power = Term::Pow(Boxed::new(alloc, base)?, n);
-    let product = Term::Mul(
-        Boxed::new(alloc, power)?,
-        Boxed::new(alloc, Term::Var(0))?,
-    );
+    let product = Term::Mul(Boxed::new(alloc, power)?, Boxed::new(alloc, Term::Var(0))?);
     Ok(Term::Add(
         Boxed::new(alloc, product)?,
         Boxed::new(alloc, Term::Int(c))?,
