@@ -1,5 +1,5 @@
 -- The atoms of a term's polynomial under a path are among the atoms of its leaves.
-use Rattle.std.specs.Prelude.{◌≡◌, ℕ, zero, suc, List, [], ◌∷◌, ◌++◌}
+use Rattle.std.specs.Prelude.{ℕ, zero, suc, List, [], ◌∷◌, ◌++◌}
 use Rattle.std.specs.List.{AllByRecursion as ByRecursion}
 use Rattle.std.proofs.Common.{sym, subst}
 use Rattle.alg_terms.specs.declared.term.Atom.{Atom}
@@ -9,12 +9,13 @@ use Rattle.alg_mono.specs.FiniteMaps.{Each, products}
 use Rattle.alg_mono.specs.Numbers.{exponents, integers}
 use Rattle.alg_mono.specs.Polynomials.{poly_neg}
 use Rattle.alg_mono.proofs.Each.{Each-keep, Each-collect, Each-append, Each-products, Each-neg}
-use Rattle.alg_meaning.specs.Atoms.{Monomial, Polynomial, atom_cmp, falling, times, plus, times_poly, power_poly, poly_along}
+use Rattle.alg_meaning.specs.Atoms.{Monomial, Polynomial, atom_cmp, falling, times, plus, times_poly, power_poly}
 use Rattle.alg_meaning.specs.PolynomialOf.{poly_of, poly_of_under}
 use Rattle.alg_reify.specs.Table.{leaves}
 use Rattle.alg_reify.proofs.Along.{along-variable, along-constant, along-zero, along-neg, along-plus, along-minus, along-times, along-power, along-under}
 
-pub both_parts : {X : Type 0} (P : X → Type 0) (xs ys : List X) → ByRecursion P (xs ++ ys) → ByRecursion P xs × ByRecursion P ys
+pub both_parts : {X : Type 0} (P : X → Type 0) (xs ys : List X) → ByRecursion P (xs ++ ys) →
+    ByRecursion P xs × ByRecursion P ys
 both_parts P [] ys h = (tt, h)
 both_parts P (x ∷ xs) ys h = let rest = both_parts P xs ys h.1 in ((h.0, rest.0), rest.1)
 

@@ -11,9 +11,9 @@ use Rattle.alg_terms.specs.declared.term.Term.TheVariants.{Var, Int, Neg, Add, S
 use Rattle.alg_terms.proofs.Built.{fold_term-Var, fold_term-Int, fold_term-Neg, fold_term-Add, fold_term-Sub, fold_term-Mul, fold_term-Pow, fold_term-Hom}
 use Rattle.alg_mono.specs.FiniteMaps.{Each}
 use Rattle.alg_mono.specs.Numbers.{integers}
-use Rattle.alg_mono.specs.Polynomials.{PolyOver, IsPolynomial, poly_neg, poly_term}
+use Rattle.alg_mono.specs.Polynomials.{PolyOver, IsPolynomial, poly_neg}
 use Rattle.alg_poly.specs.Poly.{atom_of, term_of, sum_of, difference_of, product_of, power_of}
-use Rattle.alg_meaning.specs.Atoms.{Polynomial, atom_cmp, falling, plus, minus, times_poly, power_poly, put_before, mono_under, poly_along, poly_under}
+use Rattle.alg_meaning.specs.Atoms.{Polynomial, atom_cmp, put_before, poly_along, poly_under}
 use Rattle.alg_meaning.specs.Orders.{atom_total, atom_anti}
 use Rattle.alg_meaning.specs.PolynomialOf.{node_poly, poly_of, poly_of_under}
 use Rattle.alg_meaning.proofs.Canonical.{IsPolynomial-poly_of}
@@ -67,7 +67,8 @@ module _ (atoms : List Atom) (path : List ℕ) where
   pub made-Pow : (t : Term) (n : ℕ) → made atoms path (Pow t n) ≡ power_of (made atoms path t) n
   made-Pow t n =
       ap at (fold_term-Pow node_poly t n) ∙ ap (numbered atoms) (along-power path (poly_of t) n)
-      ∙ image-power atom_total atom_anti nat_cmp_total nat_cmp-IsAntisymmetric (number_of atoms) (poly_of_under path t) n
+      ∙ image-power atom_total atom_anti nat_cmp_total nat_cmp-IsAntisymmetric (number_of atoms)
+      (poly_of_under path t) n
 
   pub made-Hom : (f : ℕ) (t : Term) → made atoms path (Hom f t) ≡ made atoms (path ++ f ∷ []) t
   made-Hom f t = ap at (fold_term-Hom node_poly f t) ∙ ap (numbered atoms) (along-under path f (poly_of t))

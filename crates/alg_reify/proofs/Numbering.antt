@@ -26,7 +26,8 @@ numbered_by b atoms a false n here later =
     one_more : (n : ℕ) → 1 + n ≡ suc n
     one_more n = omega arith
 
-is_numbered : (atoms : List Atom) (a : Atom) (k : ℕ) → k < length atoms → slice_index_or atoms k a ≡ a → IsNumbered atoms a
+is_numbered : (atoms : List Atom) (a : Atom) (k : ℕ) → k < length atoms → slice_index_or atoms k a ≡ a →
+    IsNumbered atoms a
 is_numbered [] a k l is = absurd (omega arith)
 is_numbered (b ∷ atoms) a zero l is =
     numbered_by b atoms a (atom_eq a b) (number_of atoms a) (atoms_decide a b).0
@@ -43,7 +44,8 @@ contained_numbered atoms a h = is_numbered atoms a h.0 h.1 h.2
 
 -- an atom of the table is found
 pub found : (atoms : List Atom) (path same : List ℕ) (var : ℕ) (r : Option ℕ) → same ≡ path →
-    Contains atoms (record { path = path; var = var }) → r ≡ position (atom_eq (record { path = same; var = var })) atoms →
+    Contains atoms (record { path = path; var = var }) →
+    r ≡ position (atom_eq (record { path = same; var = var })) atoms →
     r ≡ None → ⊥
 found atoms path same var r e held is none =
     let P : List ℕ → Type 0 = λ p. r ≡ position (atom_eq (record { path = p; var = var })) atoms in

@@ -108,7 +108,8 @@ parts-Mul t a b l r e p q =
     }
 
 -- ---- what is asked of a term is so of its parts
-pub over_part : (atoms : List Atom) (path inner : List ℕ) (t part : Term) (own : Outcome) → HasPart t part path inner own →
+pub over_part : (atoms : List Atom) (path inner : List ℕ) (t part : Term) (own : Outcome) →
+    HasPart t part path inner own →
     IsOver atoms path t → IsOver atoms inner part
 over_part atoms path inner t part own h over = record {
   literals = h.literals over.literals;
@@ -117,12 +118,14 @@ over_part atoms path inner t part own h over = record {
 }
 
 -- the inner path, as the code has it
-pub over_inner : (atoms : List Atom) (path inner : List ℕ) (t part : Term) (own : Outcome) → HasPart t part path inner own →
+pub over_inner : (atoms : List Atom) (path inner : List ℕ) (t part : Term) (own : Outcome) →
+    HasPart t part path inner own →
     IsOver atoms path t → (pushed : List ℕ) → pushed ≡ inner → IsOver atoms pushed part
 over_inner atoms path inner t part own h over pushed e =
     let P : List ℕ → Type 0 = λ x. IsOver atoms x part in subst P (sym e) (over_part atoms path inner t part own h over)
 
-module _ (atoms : List Atom) (path : List ℕ) (t l r : Term) (own : Outcome) (h : HasParts t l r own) (over : IsOver atoms path t) where
+module _ (atoms : List Atom) (path : List ℕ) (t l r : Term) (own : Outcome) (h : HasParts t l r own)
+    (over : IsOver atoms path t) where
   held_parts : All (Contains atoms) (leaves path l) × All (Contains atoms) (leaves path r)
   held_parts =
       let P = Contains atoms in

@@ -79,12 +79,14 @@ after_part t part path inner own h fine = sym (h.outcome ∙ ap (λ o. first_bre
 abbrev pub IsMade : List Atom → List ℕ → Term → PolyOver ℕ → Type 0
 IsMade atoms path t p = (p ≡ made atoms path t) × (term_outcome t ≡ Outcome.Fine)
 
-same_path : (atoms : List Atom) (after path : List ℕ) (b : Term) (q : PolyOver ℕ) → after ≡ path → IsMade atoms after b q →
+same_path : (atoms : List Atom) (after path : List ℕ) (b : Term) (q : PolyOver ℕ) → after ≡ path →
+    IsMade atoms after b q →
     IsMade atoms path b q
 same_path atoms after path b q e h = let P : List ℕ → Type 0 = λ x. IsMade atoms x b q in subst P e h
 
 module _ (atoms : List Atom) (path after : List ℕ) (t x y a b : Term) (p q : PolyOver ℕ) (r : Made)
-    (left : a ≡ x) (right : b ≡ y) (back : after ≡ path) (over : IsOver atoms path t) (made_left : IsMade atoms path a p)
+    (left : a ≡ x) (right : b ≡ y) (back : after ≡ path) (over : IsOver atoms path t)
+    (made_left : IsMade atoms path a p)
     (made_right : IsMade atoms after b q) where
   at_path : IsMade atoms path b q
   at_path = same_path atoms after path b q back made_right
@@ -94,15 +96,18 @@ module _ (atoms : List Atom) (path after : List ℕ) (t x y a b : Term) (p q : P
   sum_own h =
       let own = sum_outcome (poly_of a) (poly_of b) in
       (λ i. sum_outcome (made_left.0 i) (at_path.0 i))
-      ∙ sym (sum_like (poly_of a) (made atoms path a) (like_made atoms path a (over_left atoms path t a b own h over).held)
+      ∙ sym (sum_like (poly_of a) (made atoms path a)
+      (like_made atoms path a (over_left atoms path t a b own h over).held)
       (poly_of b) (made atoms path b) (like_made atoms path b (over_right atoms path t a b own h over).held))
       ∙ after_both t a b own h made_left.1 at_path.1
 
-  product_own : HasParts t a b (product_outcome (poly_of a ∷ poly_of b ∷ [])) → product_outcome (p ∷ q ∷ []) ≡ term_outcome t
+  product_own : HasParts t a b (product_outcome (poly_of a ∷ poly_of b ∷ [])) →
+      product_outcome (p ∷ q ∷ []) ≡ term_outcome t
   product_own h =
       let own = product_outcome (poly_of a ∷ poly_of b ∷ []) in
       (λ i. product_outcome (made_left.0 i ∷ at_path.0 i ∷ []))
-      ∙ sym (product_like (poly_of a) (made atoms path a) (like_made atoms path a (over_left atoms path t a b own h over).held)
+      ∙ sym (product_like (poly_of a) (made atoms path a)
+      (like_made atoms path a (over_left atoms path t a b own h over).held)
       (poly_of b) (made atoms path b) (like_made atoms path b (over_right atoms path t a b own h over).held))
       ∙ after_both t a b own h made_left.1 at_path.1
 
@@ -118,7 +123,8 @@ module _ (atoms : List Atom) (path after : List ℕ) (t x y a b : Term) (p q : P
       (sum_own (parts-Add t x y a b e left right))
 
   -- and so the difference
-  pub difference_made : t ≡ Sub x y → IfOk r (λ s. s ≡ difference_of p q) → IfOk r (λ s. sum_outcome p q ≡ Outcome.Fine) →
+  pub difference_made : t ≡ Sub x y → IfOk r (λ s. s ≡ difference_of p q) →
+      IfOk r (λ s. sum_outcome p q ≡ Outcome.Fine) →
       IfErr r (λ e. Tells e (sum_outcome p q)) → Makes (made atoms path t) (term_outcome t) r
   difference_made e is fine refused =
       joined r (difference_of p q) (made atoms path t) (sum_outcome p q) (term_outcome t) is fine refused
@@ -168,7 +174,8 @@ module _ (atoms : List Atom) (path : List ℕ) (t x part : Term) (p : PolyOver �
       )
 
 -- a constant and an atom
-pub constant_made : (atoms : List Atom) (path : List ℕ) (t : Term) (n : ℤ) (p : PolyOver ℕ) → t ≡ Int n → p ≡ term_of [] n →
+pub constant_made : (atoms : List Atom) (path : List ℕ) (t : Term) (n : ℤ) (p : PolyOver ℕ) → t ≡ Int n →
+    p ≡ term_of [] n →
     IsMade atoms path t p
 constant_made atoms path t n p e is =
     (is ∙ sym (made-Int atoms path n) ∙ ap (made atoms path) (sym e), ap term_outcome e ∙ term_outcome-Int n)

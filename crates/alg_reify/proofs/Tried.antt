@@ -13,7 +13,8 @@ use Rattle.alg_reify.specs.Tried.{tried}
 abbrev IsLiteral : ℤ → Type 0
 IsLiteral k = (pos 0 ≤ℤ k) × (k ≤ℤ MAX_LITERAL)
 
-tried_is_term : (file : File) (k : ℤ) (n : ℕ) (c : ℤ) → 0 < length file.vars → IsLiteral k → n ≤ MAX_EXPONENT → IsLiteral c →
+tried_is_term : (file : File) (k : ℤ) (n : ℕ) (c : ℤ) → 0 < length file.vars → IsLiteral k → n ≤ MAX_EXPONENT →
+    IsLiteral c →
     IsTerm file (tried k n c)
 unfolding fold_term EachNode
     Rattle.alg_terms.specs.declared.term.Term.TheBlock.hidden-the_row-Term-0 denote.Hole.Carrier.hidden
@@ -31,7 +32,8 @@ unfolding EachNode
     Rattle.alg_terms.specs.declared.term.Term.TheBlock.hidden-the_row-Term-0 denote.Hole.Carrier.hidden
 tried_is_plain k n c = search rules
 
-module _ (file : File) (k : ℤ) (n : ℕ) (c d : ℤ) (there : 0 < length file.vars) (h : IsLiteral k) (small : n ≤ MAX_EXPONENT)
+module _ (file : File) (k : ℤ) (n : ℕ) (c d : ℤ) (there : 0 < length file.vars) (h : IsLiteral k)
+    (small : n ≤ MAX_EXPONENT)
     (g : IsLiteral c) (f : IsLiteral d) where
   built_equation : IsEquation file (record { sort = sort_of_var file 0; left = tried k n c; right = tried k n d })
   unfolding fold_term EachNode
@@ -45,7 +47,8 @@ module _ (file : File) (k : ℤ) (n : ℕ) (c d : ℤ) (there : 0 < length file.
 
   -- two of them make an equation without quotients
   pub tried_is_equation : (s : ℕ) (l r : Term) → s ≡ sort_of_var file 0 → l ≡ tried k n c → r ≡ tried k n d →
-      IsEquation file (record { sort = s; left = l; right = r }) × DividesNowhere (record { sort = s; left = l; right = r })
+      IsEquation file (record { sort = s; left = l; right = r }) × DividesNowhere
+      (record { sort = s; left = l; right = r })
   tried_is_equation s l r sort left right = (
     subst (IsEquation file) (λ i. record { sort = sym sort i; left = sym left i; right = sym right i }) built_equation,
     (subst HasNoQuotient (sym left) (tried_is_plain k n c), subst HasNoQuotient (sym right) (tried_is_plain k n d)),

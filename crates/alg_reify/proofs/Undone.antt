@@ -1,6 +1,6 @@
 -- A renaming of atoms that can be undone keeps a polynomial's norm and degree, and whether it is zero.
-use Rattle.std.specs.Prelude.{◌≡◌, ℕ, ◌+◌, ◌≤◌, Bool, true, false, List, [], ◌∷◌, ℤ}
-use Rattle.std.proofs.Common.{refl, sym, ap, subst, ◌∙◌, arith}
+use Rattle.std.specs.Prelude.{◌≡◌, ℕ, ◌+◌, ◌≤◌, true, false, List, [], ◌∷◌, ℤ}
+use Rattle.std.proofs.Common.{refl, sym, ap, ◌∙◌, arith}
 use Rattle.std.specs.Int.RustNames.{unsigned_abs}
 use Rattle.std.proofs.lemmas.List.Sums.{sum_by-cons}
 use Rattle.std.specs.declared.cmp.Ordering.{Ordering}
@@ -51,7 +51,8 @@ pub record IsLike {K L : Type 0} (p : PolyOver K) (q : PolyOver L) : Type 0 wher
   pub degree : poly_degree p ≡ poly_degree q
   pub nothing : is_nothing p ≡ is_nothing q
 
-pub IsLike-trans : {J K L : Type 0} (p : PolyOver J) (q : PolyOver K) (r : PolyOver L) → IsLike p q → IsLike q r → IsLike p r
+pub IsLike-trans : {J K L : Type 0} (p : PolyOver J) (q : PolyOver K) (r : PolyOver L) → IsLike p q → IsLike q r →
+    IsLike p r
 IsLike-trans p q r h g =
     record { norm = h.norm ∙ g.norm; degree = h.degree ∙ g.degree; nothing = h.nothing ∙ g.nothing }
 

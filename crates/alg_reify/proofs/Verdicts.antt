@@ -1,21 +1,18 @@
 -- The verdicts by ring: there is one, and what a verdict No says.
-use Rattle.std.specs.Prelude.{◌≡◌, ◌≢◌, ◌<◌, ℕ, Bool, true, false, cond, List, [], ◌∷◌, ℤ, pos, ◌+ℤ◌, length, All, Contains}
+use Rattle.std.specs.Prelude.{◌≡◌, ◌≢◌, ◌<◌, Bool, true, false, cond, [], ◌∷◌, ℤ, pos, ◌+ℤ◌, length, All, Contains}
 use Rattle.std.proofs.Common.{refl, sym, ap, subst, ◌∙◌, T, arith}
 use Rattle.std.proofs.lemmas.List.Elements.{recursion_from_All, All-weaker}
 use Rattle.std.proofs.lemmas.Int.{ints}
-use Rattle.std.specs.declared.cmp.Ordering.{Ordering}
 use Rattle.std.specs.declared.cmp.Ordering.TheVariants.{Less, Equal, Greater}
 use Rattle.std.specs.Ordering.{nat_cmp, eq_by_cmp, ordering_reverse}
-use Rattle.std.specs.Cmp.{IsTotalOrder, nat_cmp_total}
-use Rattle.std.specs.FinMap.{IsAntisymmetric, nat_cmp-IsAntisymmetric}
-use Rattle.alg_terms.specs.declared.term.Atom.{Atom}
+use Rattle.std.specs.Cmp.{nat_cmp_total}
+use Rattle.std.specs.FinMap.{nat_cmp-IsAntisymmetric}
 use Rattle.alg_terms.specs.declared.term.Term.{Term}
 use Rattle.alg_terms.specs.declared.file.File.{File}
 use Rattle.alg_terms.specs.declared.goals.Equation.{Equation}
 use Rattle.alg_mono.specs.FiniteMaps.{Each}
-use Rattle.alg_mono.specs.Numbers.{integers, is_zero}
+use Rattle.alg_mono.specs.Numbers.{is_zero}
 use Rattle.alg_mono.specs.Monomials.{grevlex}
-use Rattle.alg_mono.specs.Outcomes.{Outcome}
 use Rattle.alg_mono.proofs.Canonical.{equal}
 use Rattle.alg_mono.proofs.Grevlex.{falling_anti}
 use Rattle.alg_mono.proofs.Monomials.{grevlex_total, grevlex_anti}
@@ -23,9 +20,9 @@ use Rattle.alg_mono.proofs.Numbers.{is_zero_only}
 use Rattle.alg_poly.specs.Poly.{Monomial, Polynomial, before, coefficient_of, DifferFirst}
 use Rattle.alg_meaning.specs.Atoms.{atom_cmp}
 use Rattle.alg_meaning.specs.PolynomialOf.{poly_of}
-use Rattle.alg_reify.specs.Table.{leaves, MAX_ATOMS}
+use Rattle.alg_reify.specs.Table.{leaves}
 use Rattle.alg_reify.specs.Numbered.{number_of, numbered}
-use Rattle.alg_reify.specs.RingVerdict.{RingVerdict, IsRingVerdict, own_table}
+use Rattle.alg_reify.specs.RingVerdict.{RingVerdict, own_table}
 use Rattle.alg_reify.specs.Laws.{OneRingVerdict, NoDiffers, NoIsOverTheTable}
 use Rattle.alg_reify.proofs.AtomsIn.{atoms_in}
 use Rattle.alg_reify.proofs.Held.{held_left, held_right}

@@ -8,13 +8,14 @@ use Rattle.alg_mono.specs.Outcomes.{Outcome, first_breach}
 use Rattle.alg_poly.specs.Poly.{Polynomial, DifferFirst}
 use Rattle.alg_meaning.specs.TermOutcome.{term_outcome}
 use Rattle.alg_reify.specs.Table.{MAX_ATOMS}
-use Rattle.alg_reify.specs.RingVerdict.{RingVerdict, ComesTo, IsRingVerdict, own_table}
+use Rattle.alg_reify.specs.RingVerdict.{ComesTo, IsRingVerdict, own_table}
 use Rattle.alg_reify.proofs.Held.{held_left, held_right}
 use Rattle.alg_reify.proofs.Made.{made, same_made}
 use Rattle.alg_ring.specs.declared.decide.RingAnswer.{RingAnswer}
 use Rattle.alg_ring.specs.Answers.{verdict_of, IsComparison}
 
-module _ (file : File) (e : Equation) (small : length (own_table file e) ≤ MAX_ATOMS) (left : term_outcome e.left ≡ Outcome.Fine)
+module _ (file : File) (e : Equation) (small : length (own_table file e) ≤ MAX_ATOMS)
+    (left : term_outcome e.left ≡ Outcome.Fine)
     (right : term_outcome e.right ≡ Outcome.Fine) where
   fine : ComesTo file e Outcome.Fine
   fine = (small, (λ i. first_breach (left i) (right i)))

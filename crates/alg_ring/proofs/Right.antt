@@ -1,15 +1,9 @@
 -- Equal polynomials have equal values.
-use Rattle.std.specs.Prelude.{◌≡◌, ℕ, slice_index_or}
 use Rattle.std.proofs.Common.{sym, ap, subst, ◌∙◌}
-use Rattle.alg_terms.specs.declared.file.File.{File}
-use Rattle.alg_terms.specs.declared.goals.Equation.{Equation}
-use Rattle.alg_terms.specs.declared.goals.Goal.{Goal}
 use Rattle.alg_terms.specs.declared.goals.Method.{Method}
-use Rattle.alg_terms.specs.declared.goals.Method.TheVariants.{ByRing}
 use Rattle.alg_terms.specs.GoalRules.{IsGoal, MayBeBy, DividesNowhere}
 use Rattle.alg_terms.specs.Members.{goal_at, no_goal}
 use Rattle.alg_universe.specs.declared.universe.Universe.{Ghosts}
-use Rattle.alg_meaning.specs.PolynomialOf.{poly_of}
 use Rattle.alg_meaning.proofs.Equal.{same_value}
 use Rattle.alg_meaning.proofs.AtomValues.{value_at}
 use Rattle.alg_meaning.proofs.Typed.{typed_left, typed_right, plain}

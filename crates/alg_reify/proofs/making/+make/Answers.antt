@@ -1,4 +1,4 @@
-use Rattle.std.proofs.Common.{rules, refl, sym, ◌∙◌, arith, SFits, to_z-of_z}
+use Rattle.std.proofs.Common.{rules, refl, SFits, to_z-of_z}
 use Rattle.std.specs.Int.{w128}
 use Rattle.alg_terms.specs.declared.term.Term.TheViews.{the_lemmas}
 use Rattle.alg_reify.proofs.Parts.{part-Neg, part-Pow, part-Hom, parts-Add, parts-Sub, parts-Mul, over_part, over_inner, over_left, over_right_after, literal, divides, held_atom}
@@ -15,7 +15,8 @@ constant-requires t c =
 pub returns-in_ok-constant-in-Int-clause-makes : goal.returns-in_ok-constant-in-Int-clause-makes
 returns-in_ok-constant-in-Int-clause-makes t c =
     let fits : SFits w128 c.in-Int.value = search rules in
-    constant_made c.args.table.now c.args.path.now.items _ _ _ c.in-Int.is (simp to_z-of_z at c.in_ok-constant-in-Int.ensures)
+    constant_made c.args.table.now c.args.path.now.items _ _ _ c.in-Int.is
+    (simp to_z-of_z at c.in_ok-constant-in-Int.ensures)
 
 -- a variable is an atom of the table
 pub make_atom-requires : goal.make_atom-requires
@@ -24,23 +25,29 @@ make_atom-requires t c =
 
 pub returns-in_ok-make_atom-in-Var-clause-makes : goal.returns-in_ok-make_atom-in-Var-clause-makes
 returns-in_ok-make_atom-in-Var-clause-makes t c =
-    atom_made c.args.table.now c.args.path.now.items _ _ _ _ c.in-Var.is c.as_slice.ensures.value c.in_ok-make_atom-in-Var.ensures
+    atom_made c.args.table.now c.args.path.now.items _ _ _ _ c.in-Var.is c.as_slice.ensures.value
+    c.in_ok-make_atom-in-Var.ensures
 
 -- an opposite
 pub make-requires : goal.make-requires
 make-requires t c =
-    let path = c.args.path.now.items in
-    (search (rules, the_lemmas), over_part c.args.table.now path path _ _ _ (part-Neg path _ _ _ c.in-Neg.is c.get.ensures) c.requires)
+    let path = c.args.path.now.items in (
+      search (rules, the_lemmas),
+      over_part c.args.table.now path path _ _ _
+          (part-Neg path _ _ _ c.in-Neg.is c.get.ensures) c.requires,
+    )
 
 pub returns-in_err-part-in-Neg-clause-makes : goal.returns-in_err-part-in-Neg-clause-makes
 returns-in_err-part-in-Neg-clause-makes t c =
     let path = c.args.path.now.items in
-    part_failed _ _ _ _ path path _ _ (part-Neg path _ _ _ c.in-Neg.is c.get.ensures) c.from_residual-in_err-part-in-Neg.ensures.1
+    part_failed _ _ _ _ path path _ _ (part-Neg path _ _ _ c.in-Neg.is c.get.ensures)
+    c.from_residual-in_err-part-in-Neg.ensures.1
     c.in_err-part-in-Neg.ensures.makes
 
 pub returns-in_ok-neg-in-Neg-clause-makes : goal.returns-in_ok-neg-in-Neg-clause-makes
 returns-in_ok-neg-in-Neg-clause-makes t c =
-    opposite_made c.args.table.now c.args.path.now.items _ _ _ _ c.get.ensures _ c.in_ok-part-in-Neg.ensures.makes c.in-Neg.is
+    opposite_made c.args.table.now c.args.path.now.items _ _ _ _ c.get.ensures _ c.in_ok-part-in-Neg.ensures.makes
+    c.in-Neg.is
     c.in_ok-neg-in-Neg.ensures
 
 -- a power
@@ -60,7 +67,8 @@ returns-in_err-part-in-Pow-clause-makes t c =
 pub returns-in_ok-part-in-Pow-clause-makes : goal.returns-in_ok-part-in-Pow-clause-makes
 returns-in_ok-part-in-Pow-clause-makes t c =
     let e = c.power.ensures in
-    power_made c.args.table.now c.args.path.now.items _ _ _ _ c.get-in-Pow.ensures _ _ c.requires c.in_ok-part-in-Pow.ensures.makes
+    power_made c.args.table.now c.args.path.now.items _ _ _ _ c.get-in-Pow.ensures _ _ c.requires
+    c.in_ok-part-in-Pow.ensures.makes
     c.in-Pow.is e.power e.fine e.refused
 
 -- an image
@@ -149,7 +157,8 @@ returns-in_err-right-in-Sub-clause-makes t c =
 pub returns-in_ok-right-in-Sub-clause-makes : goal.returns-in_ok-right-in-Sub-clause-makes
 returns-in_ok-right-in-Sub-clause-makes t c =
     let e = c.sub.ensures in
-    difference_made c.args.table.now c.args.path.now.items c.make-in-Sub.new.path.items _ _ _ _ _ _ _ _ c.get-in-Sub.ensures
+    difference_made c.args.table.now c.args.path.now.items c.make-in-Sub.new.path.items _ _ _ _ _ _ _ _
+    c.get-in-Sub.ensures
     c.get-in-Sub-2.ensures c.in_ok-left-in-Sub.ensures.path c.requires c.in_ok-left-in-Sub.ensures.makes
     c.in_ok-right-in-Sub.ensures.makes c.in-Sub.is e.difference e.fine e.refused
 
@@ -182,6 +191,7 @@ returns-in_err-right-in-Mul-clause-makes t c =
 pub returns-in_ok-right-in-Mul-clause-makes : goal.returns-in_ok-right-in-Mul-clause-makes
 returns-in_ok-right-in-Mul-clause-makes t c =
     let e = c.times.ensures in
-    product_made c.args.table.now c.args.path.now.items c.make-in-Mul.new.path.items _ _ _ _ _ _ _ _ c.get-in-Mul.ensures
+    product_made c.args.table.now c.args.path.now.items c.make-in-Mul.new.path.items _ _ _ _ _ _ _ _
+    c.get-in-Mul.ensures
     c.get-in-Mul-2.ensures c.in_ok-left-in-Mul.ensures.path c.requires c.in_ok-left-in-Mul.ensures.makes
     c.in_ok-right-in-Mul.ensures.makes c.in-Mul.is e.product e.fine e.refused

@@ -20,6 +20,8 @@ reify-requires-2-clause-held c =
 -- both sides were made and compared
 pub returns-clause-answer : goal.returns-clause-answer
 returns-clause-answer c =
-    answered c.args.file.now c.args.equation.now c.in_ok-table.ensures.small c.in_ok-left.ensures.fine c.in_ok-right.ensures.fine
-    c.in_ok-table.table _ _ c.in_ok-compare.field-0 c.in_ok-table.ensures.ok c.in_ok-left.ensures.ok c.in_ok-right.ensures.ok
+    answered c.args.file.now c.args.equation.now c.in_ok-table.ensures.small c.in_ok-left.ensures.fine
+    c.in_ok-right.ensures.fine
+    c.in_ok-table.table _ _ c.in_ok-compare.field-0 c.in_ok-table.ensures.ok c.in_ok-left.ensures.ok
+    c.in_ok-right.ensures.ok
     c.in_ok-compare.ensures
