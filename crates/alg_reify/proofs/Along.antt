@@ -17,6 +17,7 @@ pub along-variable : (path : List ℕ) (k : ℕ) →
 along-variable [] k = refl
 along-variable (f ∷ path) k = ap (poly_under f) (along-variable path k)
 
+-- a path over a constant, and over zero, changes nothing
 pub along-constant : (path : List ℕ) (n : ℤ) →
     poly_along path (poly_term falling integers [] n) ≡ poly_term falling integers [] n
 along-constant [] n = refl
@@ -27,6 +28,7 @@ pub along-zero : (path : List ℕ) → poly_along path [] ≡ []
 along-zero [] = refl
 along-zero (f ∷ path) = ap (poly_under f) (along-zero path)
 
+-- a path goes to the parts of an opposite, a sum, a difference, a product and a power
 pub along-neg : (path : List ℕ) (p : Polynomial) → poly_along path (poly_neg p) ≡ poly_neg (poly_along path p)
 along-neg [] p = refl
 along-neg (f ∷ path) p =
@@ -67,6 +69,7 @@ pub along-under : (path : List ℕ) (f : ℕ) (p : Polynomial) →
 along-under [] f p = refl
 along-under (g ∷ path) f p = ap (poly_under g) (along-under path f p)
 
+-- what a polynomial is under a path is one
 pub IsPolynomial-along : (path : List ℕ) (p : Polynomial) → IsPolynomial atom_cmp integers p →
     IsPolynomial atom_cmp integers (poly_along path p)
 IsPolynomial-along [] p h = h

@@ -14,6 +14,7 @@ use Rattle.alg_meaning.specs.PolynomialOf.{poly_of, poly_of_under}
 use Rattle.alg_reify.specs.Table.{leaves}
 use Rattle.alg_reify.proofs.Along.{along-variable, along-constant, along-zero, along-neg, along-plus, along-minus, along-times, along-power, along-under}
 
+-- what holds of each member of two lists holds of each member of each
 pub both_parts : {X : Type 0} (P : X → Type 0) (xs ys : List X) → ByRecursion P (xs ++ ys) →
     ByRecursion P xs × ByRecursion P ys
 both_parts P [] ys h = (tt, h)
@@ -24,6 +25,7 @@ module _ (P : Atom → Type 0) where
   abbrev pub EachAtom : Polynomial → Type 0
   EachAtom p = Each (λ (m : Monomial). Each P m) p
 
+  -- sums, products and powers have no other atoms
   plus_in : (p q : Polynomial) → EachAtom p → EachAtom q → EachAtom (plus p q)
   plus_in p q h g =
       Each-collect falling integers.amounts (λ m. Each P m) (p ++ q) (Each-append (λ m. Each P m) p q h g)
@@ -38,6 +40,7 @@ module _ (P : Atom → Type 0) where
   power_in p zero h = Each-keep falling integers.amounts (λ m. Each P m) [] integers.one [] tt tt
   power_in p (suc n) h = times_in p (power_poly p n) h (power_in p n h)
 
+  -- what holds of the atoms of all leaves holds of the atoms of the polynomial
   pub atoms_in : (path : List ℕ) (t : Term) → ByRecursion P (leaves path t) → EachAtom (poly_of_under path t)
   unfolding fold_term
   atoms_in path (Var k) h = subst EachAtom (sym (along-variable path k)) ((h.0, tt), tt)

@@ -11,12 +11,14 @@ use Rattle.alg_reify.specs.Table.{atom_eq, each_once, leaves, equation_leaves, u
 use Rattle.alg_reify.proofs.AtomsIn.{both_parts}
 use Rattle.alg_reify.proofs.Once.{atoms_decide}
 
+-- the first member stands in the list, and so do the later ones
 contains_first : (y : Atom) (ys : List Atom) (x : Atom) → y ≡ x → Contains (y ∷ ys) x
 contains_first y ys x e = (0, omega arith, e)
 
 contains_later : (y : Atom) (ys : List Atom) (x : Atom) → Contains ys x → Contains (y ∷ ys) x
 contains_later y ys x h = (suc h.0, omega (arith, h.1), h.2)
 
+-- one more member, or none
 kept_by : (b : Bool) (y : Atom) (ys : List Atom) (x : Atom) → Contains ys x → Contains (cond b (y ∷ ys) ys) x
 kept_by true y ys x h = contains_later y ys x h
 kept_by false y ys x h = h
@@ -39,6 +41,7 @@ once_more a ys x false e h =
     contains_later a (filter (λ c. not (atom_eq a c)) ys) x
     (kept (λ c. not (atom_eq a c)) ys x h.0 (ap not e) h.1 h.2)
 
+-- each member of a list stands in the list with each member once
 once_holds : (xs : List Atom) → ByRecursion (Contains (each_once xs)) xs
 once_holds [] = tt
 once_holds (a ∷ xs) = (
@@ -50,6 +53,7 @@ once_holds (a ∷ xs) = (
 )
 
 module _ (file : File) (e : Equation) (uses : List Use) where
+  -- the atoms of both sides
   both_sides : ByRecursion (Contains (table file e uses)) (leaves [] e.left)
       × ByRecursion (Contains (table file e uses)) (leaves [] e.right)
   both_sides =
@@ -58,6 +62,7 @@ module _ (file : File) (e : Equation) (uses : List Use) where
       both_parts P (leaves [] e.left) (leaves [] e.right)
       (both_parts P (equation_leaves [] e) rest (once_holds (equation_leaves [] e ++ rest))).0
 
+  -- the atoms of the left side, and of the right
   pub held_left : All (Contains (table file e uses)) (leaves [] e.left)
   held_left = All-from_recursion (Contains (table file e uses)) (leaves [] e.left) both_sides.0
 

@@ -24,6 +24,7 @@ module _ {K L : Type 0} (ck : K → K → Ordering) (cl : L → L → Ordering) 
 module _ {K L : Type 0} {ck : K → K → Ordering} {cl : L → L → Ordering}
     (ok : IsTotalOrder ck) (ak : IsAntisymmetric ck) (ol : IsTotalOrder cl) (al : IsAntisymmetric cl)
     (f : K → L) where
+  -- the image of a sum, an opposite, a difference, a product, a constant and a power is that of the images
   pub image-plus : (p q : PolyOver K) →
       poly_image ck cl f (poly_plus (falling ck) integers p q)
       ≡ poly_plus (falling cl) integers (poly_image ck cl f p) (poly_image ck cl f q)
@@ -72,6 +73,7 @@ module _ {K L : Type 0} {ck : K → K → Ordering} {cl : L → L → Ordering}
 
 module _ {K L : Type 0} (ck : K → K → Ordering) (cl : L → L → Ordering) (f : K → L) (P : K → Type 0) (Q : L → Type 0)
     (to : (k : K) → P k → Q (f k)) where
+  -- what holds of the images of all atoms
   pub Each-image : (p : PolyOver K) → Each (λ m. Each P m) p → Each (λ m. Each Q m) (poly_image ck cl f p)
   Each-image p h =
       Each-collect (falling cl) integers.amounts (λ m. Each Q m) (renamed (mono_image ck cl f) p)

@@ -6,9 +6,11 @@ use Rattle.alg_terms.specs.declared.term.Term.TheVariants.{Var, Int, Neg, Add, S
 use Rattle.alg_terms.proofs.Built.{fold_term-Var, fold_term-Int, fold_term-Neg, fold_term-Add, fold_term-Sub, fold_term-Mul, fold_term-Div, fold_term-Pow, fold_term-Hom}
 use Rattle.alg_reify.specs.Table.{leaves, node_leaves}
 
+-- what a fold gives at a path
 abbrev At : List ℕ → (List ℕ → List Atom) → List Atom
 At path f = f path
 
+-- one lemma for each kind of term
 pub leaves-Var : (path : List ℕ) (k : ℕ) → leaves path (Var k) ≡ record { path = path; var = k } ∷ []
 leaves-Var path k = ap (At path) (fold_term-Var node_leaves k)
 

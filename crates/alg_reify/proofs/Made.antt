@@ -30,9 +30,11 @@ abbrev pub made : List Atom → List ℕ → Term → PolyOver ℕ
 made atoms path t = numbered atoms (poly_of_under path t)
 
 module _ (atoms : List Atom) (path : List ℕ) where
+  -- a polynomial over atoms under the path, numbered
   abbrev at : Polynomial → PolyOver ℕ
   at p = numbered atoms (poly_along path p)
 
+  -- one equation for each kind of term
   pub made-Var : (k : ℕ) → made atoms path (Var k) ≡ atom_of (number_of atoms (record { path = path; var = k }))
   made-Var k = ap at (fold_term-Var node_poly k) ∙ ap (numbered atoms) (along-variable path k)
 
@@ -78,17 +80,21 @@ without_first : List ℕ → List ℕ
 without_first [] = []
 without_first (f ∷ path) = path
 
+-- the atom without the outermost morphism
 below_first : Atom → Atom
 below_first a = record { path = without_first a.path; var = a.var }
 
+-- what always holds holds of each key
 each_always : {K A : Type 0} (P : K → Type 0) → ((k : K) → P k) → (es : List (K × A)) → Each P es
 each_always P h [] = tt
 each_always P h (e ∷ es) = (h e.0, each_always P h es)
 
+-- a morphism that is put before the path can be taken away again
 comes_back : (f : ℕ) (a : Atom) → below_first (put_before f a) ≡ a
 unfolding below_first without_first
 comes_back f a = refl
 
+-- a path keeps norm, degree and zero
 like_along : (path : List ℕ) (p : Polynomial) → IsPolynomial atom_cmp integers p → IsLike p (poly_along path p)
 like_along [] p is = record { norm = refl; degree = refl; nothing = refl }
 like_along (f ∷ path) p is =
@@ -99,12 +105,14 @@ like_along (f ∷ path) p is =
     (λ m. each_always (λ a. below_first (put_before f a) ≡ a) (comes_back f) m) q))
 
 module _ (atoms : List Atom) (path : List ℕ) (t : Term) (held : All (Contains atoms) (leaves path t)) where
+  -- each atom comes back from its number
   all_back : Each (λ m. Each (λ a. atom_at atoms (number_of atoms a) ≡ a) m) (poly_of_under path t)
   all_back =
       let Back : Atom → Type 0 = λ a. atom_at atoms (number_of atoms a) ≡ a in
       atoms_in Back path t (recursion_from_All Back (leaves path t)
       (All-weaker (Contains atoms) Back (λ a h. (contained_numbered atoms a h).1) (leaves path t) held))
 
+  -- the polynomial under the path is one
   is_polynomial : IsPolynomial atom_cmp integers (poly_of_under path t)
   is_polynomial = IsPolynomial-along path (poly_of t) (IsPolynomial-poly_of t)
 

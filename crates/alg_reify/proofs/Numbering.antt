@@ -15,6 +15,7 @@ atom_at atoms k = slice_index_or atoms k (record { path = []; var = 0 })
 abbrev pub IsNumbered : List Atom → Atom → Type 0
 IsNumbered atoms a = (number_of atoms a < length atoms) × (atom_at atoms (number_of atoms a) ≡ a)
 
+-- one atom in front of the table: the number is 0 where it is this one, else one more
 numbered_by : (b : Atom) (atoms : List Atom) (a : Atom) (t : Bool) (n : ℕ) → (t ≡ true → a ≡ b) →
     (t ≡ false → (n < length atoms) × (atom_at atoms n ≡ a)) →
     (cond (not t) (1 + n) 0 < length (b ∷ atoms)) × (atom_at (b ∷ atoms) (cond (not t) (1 + n) 0) ≡ a)
@@ -26,6 +27,7 @@ numbered_by b atoms a false n here later =
     one_more : (n : ℕ) → 1 + n ≡ suc n
     one_more n = omega arith
 
+-- the atom that stands at a place of the table
 is_numbered : (atoms : List Atom) (a : Atom) (k : ℕ) → k < length atoms → slice_index_or atoms k a ≡ a →
     IsNumbered atoms a
 is_numbered [] a k l is = absurd (omega arith)
@@ -39,6 +41,7 @@ is_numbered (b ∷ atoms) a (suc k) l is =
     numbered_by b atoms a (atom_eq a b) (number_of atoms a) (atoms_decide a b).0
     (λ no. is_numbered atoms a k (omega arith) is)
 
+-- each atom that the table holds has a number that leads back
 pub contained_numbered : (atoms : List Atom) (a : Atom) → Contains atoms a → IsNumbered atoms a
 contained_numbered atoms a h = is_numbered atoms a h.0 h.1 h.2
 

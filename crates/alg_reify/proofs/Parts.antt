@@ -35,11 +35,13 @@ pub record HasParts (t l r : Term) (own : Outcome) : Type 0 where
   pub leaves : (path : List ℕ) → leaves path t ≡ leaves path l ++ leaves path r
   pub outcome : term_outcome t ≡ first_breach (term_outcome l) (first_breach (term_outcome r) own)
 
+-- what is fine comes after nothing
 nothing_own : (o : Outcome) → o ≡ first_breach o Outcome.Fine
 nothing_own Outcome.Fine = refl
 nothing_own Outcome.Range = refl
 nothing_own Outcome.Degree = refl
 
+-- the nodes with one part
 pub part-Neg : (path : List ℕ) (t s part : Term) → t ≡ Neg s → part ≡ s → HasPart t part path path Outcome.Fine
 part-Neg path t s part e p =
     let P : Term → Type 0 = λ x. HasPart x part path path Outcome.Fine in
@@ -76,6 +78,7 @@ part-Hom path f t s part e p =
 at_parts : (node : Term → Term → Term) (t a b l r : Term) → t ≡ node a b → l ≡ a → r ≡ b → node l r ≡ t
 at_parts node t a b l r e p q = sym (e ∙ (λ i. node (sym p i) (sym q i)))
 
+-- the nodes with two parts
 pub parts-Add : (t a b l r : Term) → t ≡ Add a b → l ≡ a → r ≡ b → HasParts t l r (sum_outcome (poly_of l) (poly_of r))
 parts-Add t a b l r e p q =
     let P : Term → Type 0 = λ x. HasParts x l r (sum_outcome (poly_of l) (poly_of r)) in
@@ -126,6 +129,7 @@ over_inner atoms path inner t part own h over pushed e =
 
 module _ (atoms : List Atom) (path : List ℕ) (t l r : Term) (own : Outcome) (h : HasParts t l r own)
     (over : IsOver atoms path t) where
+  -- the atoms of both parts
   held_parts : All (Contains atoms) (leaves path l) × All (Contains atoms) (leaves path r)
   held_parts =
       let P = Contains atoms in
@@ -133,6 +137,7 @@ module _ (atoms : List Atom) (path : List ℕ) (t l r : Term) (own : Outcome) (h
       (recursion_from_All P (leaves path l ++ leaves path r) (subst (All P) (h.leaves path) over.held)) in
       (All-from_recursion P (leaves path l) parts.0, All-from_recursion P (leaves path r) parts.1)
 
+  -- the left part, and the right
   pub over_left : IsOver atoms path l
   over_left =
       record { literals = (h.literals over.literals).0; plain = (h.plain over.plain).0; held = held_parts.0 }
@@ -145,10 +150,12 @@ module _ (atoms : List Atom) (path : List ℕ) (t l r : Term) (own : Outcome) (h
   pub over_right_after : (after : List ℕ) → after ≡ path → IsOver atoms after r
   over_right_after after e = let P : List ℕ → Type 0 = λ x. IsOver atoms x r in subst P (sym e) over_right
 
+-- what the rule on literals says
 bounds : (n : ℤ) → EachNode HasLiteral (Int n) → (pos 0 ≤ℤ n) × (n ≤ℤ MAX_LITERAL)
 unfolding EachNode
 bounds n h = h
 
+-- its bound is the greatest norm
 within : (n : ℤ) → (pos 0 ≤ℤ n) × (n ≤ℤ MAX_LITERAL) → unsigned_abs n ≤ MAX
 within n h = omega (arith, ints, h.0, h.1)
 

@@ -22,6 +22,7 @@ use Rattle.alg_reify.proofs.Likes.{sum_like, product_like, power_like}
 use Rattle.alg_reify.proofs.Made.{made, like_made, made-Var, made-Int, made-Neg, made-Add, made-Sub, made-Mul, made-Pow, made-Hom}
 use Rattle.alg_reify.proofs.Parts.{HasPart, HasParts, over_part, over_left, over_right, part-Neg, part-Pow, part-Hom, parts-Add, parts-Sub, parts-Mul}
 
+-- what making a polynomial gives
 abbrev Made : Type 0
 Made = Result (PolyOver ℕ) Overrun
 
@@ -31,11 +32,13 @@ pub joined : (r : Made) (p x : PolyOver ℕ) (o u : Outcome) → IfOk r (λ q. q
 joined (Ok q) p x o u is fine refused same other = (is ∙ same, sym other ∙ fine)
 joined (Err e) p x o u is fine refused same other = subst (Tells e) other refused
 
+-- a rule that is broken first is the one that is told
 first_told : (e : Overrun) (o later : Outcome) → Tells e o → Tells e (first_breach o later)
 first_told Range o later h = ap (λ x. first_breach x later) h
 first_told Degree o later h = ap (λ x. first_breach x later) h
 first_told NoMemory o later h = tt
 
+-- an error that was handed on tells what it told
 handed_on : (r : Made) (p : PolyOver ℕ) (o : Outcome) (e : Overrun) → IsErrAnd r (λ d. d ≡ e) → Tells e o → Makes p o r
 handed_on (Ok q) p o e came h = absurd came
 handed_on (Err d) p o e came h = let P : Overrun → Type 0 = λ x. Tells x o in subst P (sym came) h
@@ -54,6 +57,7 @@ left_failed r p t a b own e h came told =
     handed_on r p (term_outcome t) e came
     (subst (Tells e) (sym h.outcome) (first_told e (term_outcome a) (first_breach (term_outcome b) own) told))
 
+-- after the left part the outcome is that of the right part and the node
 after_left : (t a b : Term) (own : Outcome) → HasParts t a b own → term_outcome a ≡ Outcome.Fine →
     first_breach (term_outcome b) own ≡ term_outcome t
 after_left t a b own h fine =
@@ -71,6 +75,7 @@ after_both : (t a b : Term) (own : Outcome) → HasParts t a b own → term_outc
     term_outcome b ≡ Outcome.Fine → own ≡ term_outcome t
 after_both t a b own h fine also = sym (ap (λ o. first_breach o own) also) ∙ after_left t a b own h fine
 
+-- after its part the outcome is the node's own
 after_part : (t part : Term) (path inner : List ℕ) (own : Outcome) → HasPart t part path inner own →
     term_outcome part ≡ Outcome.Fine → own ≡ term_outcome t
 after_part t part path inner own h fine = sym (h.outcome ∙ ap (λ o. first_breach o own) fine)
@@ -79,6 +84,7 @@ after_part t part path inner own h fine = sym (h.outcome ∙ ap (λ o. first_bre
 abbrev pub IsMade : List Atom → List ℕ → Term → PolyOver ℕ → Type 0
 IsMade atoms path t p = (p ≡ made atoms path t) × (term_outcome t ≡ Outcome.Fine)
 
+-- the path is as before
 same_path : (atoms : List Atom) (after path : List ℕ) (b : Term) (q : PolyOver ℕ) → after ≡ path →
     IsMade atoms after b q →
     IsMade atoms path b q
@@ -88,6 +94,7 @@ module _ (atoms : List Atom) (path after : List ℕ) (t x y a b : Term) (p q : P
     (left : a ≡ x) (right : b ≡ y) (back : after ≡ path) (over : IsOver atoms path t)
     (made_left : IsMade atoms path a p)
     (made_right : IsMade atoms after b q) where
+  -- the right part at the path of the whole
   at_path : IsMade atoms path b q
   at_path = same_path atoms after path b q back made_right
 
@@ -101,6 +108,7 @@ module _ (atoms : List Atom) (path after : List ℕ) (t x y a b : Term) (p q : P
       (poly_of b) (made atoms path b) (like_made atoms path b (over_right atoms path t a b own h over).held))
       ∙ after_both t a b own h made_left.1 at_path.1
 
+  -- the product's outcome on numbers is the term's
   product_own : HasParts t a b (product_outcome (poly_of a ∷ poly_of b ∷ [])) →
       product_outcome (p ∷ q ∷ []) ≡ term_outcome t
   product_own h =
@@ -111,6 +119,7 @@ module _ (atoms : List Atom) (path after : List ℕ) (t x y a b : Term) (p q : P
       (poly_of b) (made atoms path b) (like_made atoms path b (over_right atoms path t a b own h over).held))
       ∙ after_both t a b own h made_left.1 at_path.1
 
+  -- the parts at their places are the term
   at_node : (node : Term → Term → Term) → t ≡ node x y → made atoms path (node a b) ≡ made atoms path t
   at_node node e = ap (made atoms path) (sym (e ∙ (λ i. node (sym left i) (sym right i))))
 
@@ -180,6 +189,7 @@ pub constant_made : (atoms : List Atom) (path : List ℕ) (t : Term) (n : ℤ) (
 constant_made atoms path t n p e is =
     (is ∙ sym (made-Int atoms path n) ∙ ap (made atoms path) (sym e), ap term_outcome e ∙ term_outcome-Int n)
 
+-- an atom
 pub atom_made : (atoms : List Atom) (path same : List ℕ) (t : Term) (k : ℕ) (p : PolyOver ℕ) → t ≡ Var k → same ≡ path →
     p ≡ atom_of (number_of atoms (record { path = same; var = k })) → IsMade atoms path t p
 atom_made atoms path same t k p e s is = (

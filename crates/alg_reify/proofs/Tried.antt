@@ -10,9 +10,11 @@ use Rattle.alg_terms.specs.Nodes.{fold_term, EachNode}
 use Rattle.alg_terms.specs.TermRules.{IsTerm, HasNoQuotient}
 use Rattle.alg_reify.specs.Tried.{tried}
 
+-- a number that may be a literal
 abbrev IsLiteral : ℤ → Type 0
 IsLiteral k = (pos 0 ≤ℤ k) × (k ≤ℤ MAX_LITERAL)
 
+-- the side is a term of the file
 tried_is_term : (file : File) (k : ℤ) (n : ℕ) (c : ℤ) → 0 < length file.vars → IsLiteral k → n ≤ MAX_EXPONENT →
     IsLiteral c →
     IsTerm file (tried k n c)
@@ -27,6 +29,7 @@ tried_is_term file k n c there h small g = record {
   arguments = search rules;
 }
 
+-- and without quotients
 tried_is_plain : (k : ℤ) (n : ℕ) (c : ℤ) → HasNoQuotient (tried k n c)
 unfolding EachNode
     Rattle.alg_terms.specs.declared.term.Term.TheBlock.hidden-the_row-Term-0 denote.Hole.Carrier.hidden
@@ -35,6 +38,7 @@ tried_is_plain k n c = search rules
 module _ (file : File) (k : ℤ) (n : ℕ) (c d : ℤ) (there : 0 < length file.vars) (h : IsLiteral k)
     (small : n ≤ MAX_EXPONENT)
     (g : IsLiteral c) (f : IsLiteral d) where
+  -- two sides at the variable's sort
   built_equation : IsEquation file (record { sort = sort_of_var file 0; left = tried k n c; right = tried k n d })
   unfolding fold_term EachNode
       Rattle.alg_terms.specs.declared.term.Term.TheBlock.hidden-the_row-Term-0 denote.Hole.Carrier.hidden

@@ -32,9 +32,11 @@ total_back f g none plus h (e ∷ es) each =
 -- where each key comes back, the map does
 module _ {K L A : Type 0} {ck : K → K → Ordering} {cl : L → L → Ordering} {M : Amounts A} (N : IsAmounts M)
     (ok : IsTotalOrder ck) (ak : IsAntisymmetric ck) (al : IsAntisymmetric cl) (f : K → L) (g : L → K) where
+  -- what adds up does so over the images
   adds_at : {h : K → A → A} → IsAdditive M M.none M.plus h → IsAdditive M M.none M.plus (λ l a. h (g l) a)
   adds_at H = record { at_none = λ l. H.at_none (g l); at_plus = λ l a b. H.at_plus (g l) a b }
 
+  -- renaming and then renaming back changes nothing
   pub undone : (es : List (K × A)) → IsCanonical ck M es → Each (λ k. g (f k) ≡ k) es →
       rename ck M g (rename cl M f es) ≡ es
   undone es c each =
@@ -51,11 +53,13 @@ pub record IsLike {K L : Type 0} (p : PolyOver K) (q : PolyOver L) : Type 0 wher
   pub degree : poly_degree p ≡ poly_degree q
   pub nothing : is_nothing p ≡ is_nothing q
 
+-- likeness goes on
 pub IsLike-trans : {J K L : Type 0} (p : PolyOver J) (q : PolyOver K) (r : PolyOver L) → IsLike p q → IsLike q r →
     IsLike p r
 IsLike-trans p q r h g =
     record { norm = h.norm ∙ g.norm; degree = h.degree ∙ g.degree; nothing = h.nothing ∙ g.nothing }
 
+-- renaming the keys changes no sum of amounts
 norm-renamed : {M N : Type 0} (f : M → N) (p : List (M × ℤ)) → norm (renamed f p) ≡ norm p
 norm-renamed f [] = refl
 norm-renamed f (e ∷ p) =
@@ -67,6 +71,7 @@ degree-renamed {K} {L} f (e ∷ m) =
     sum_by-cons (λ (x : L × ℕ). x.1) (f e.0, e.1) (renamed f m) ∙ ap (λ n. e.1 + n) (degree-renamed f m)
     ∙ sym (sum_by-cons (λ (x : K × ℕ). x.1) e m)
 
+-- only zero is zero
 nothing_only : {A : Type 0} (p : List A) → is_nothing p ≡ true → p ≡ []
 nothing_only [] h = refl
 nothing_only (e ∷ p) h = absurd (cc)
@@ -74,13 +79,16 @@ nothing_only (e ∷ p) h = absurd (cc)
 module _ {K L : Type 0} {ck : K → K → Ordering} {cl : L → L → Ordering}
     (ok : IsTotalOrder ck) (ak : IsAntisymmetric ck) (ol : IsTotalOrder cl) (al : IsAntisymmetric cl)
     (f : K → L) where
+  -- the norm of the image is at most the norm
   norm_image : (p : PolyOver K) → norm (poly_image ck cl f p) ≤ norm p
   norm_image p =
       omega (arith, norm-collect (falling cl) (renamed (mono_image ck cl f) p), norm-renamed (mono_image ck cl f) p)
 
+  -- the degree of a monomial's image is its degree
   degree_mono_image : (m : List (K × ℕ)) → degree (mono_image ck cl f m) ≡ degree m
   degree_mono_image m = degree-collect ol al (renamed f m) ∙ degree-renamed f m
 
+  -- the degree of the image is at most the degree
   degree_image : (p : PolyOver K) → poly_degree (poly_image ck cl f p) ≤ poly_degree p
   degree_image p =
       let d = poly_degree p in
@@ -92,9 +100,11 @@ module _ {K L : Type 0} {ck : K → K → Ordering} {cl : L → L → Ordering}
 module _ {K L : Type 0} {ck : K → K → Ordering} {cl : L → L → Ordering}
     (ok : IsTotalOrder ck) (ak : IsAntisymmetric ck) (ol : IsTotalOrder cl) (al : IsAntisymmetric cl)
     (f : K → L) (g : L → K) where
+  -- the atom comes back
   abbrev Back : K → Type 0
   Back k = g (f k) ≡ k
 
+  -- the monomials come back, and so the polynomial
   monos_back : (p : PolyOver K) → Each (λ m. IsCanonical ck exponents m) p → Each (λ m. Each Back m) p →
       Each (λ m. mono_image cl ck g (mono_image ck cl f m) ≡ m) p
   monos_back [] c h = tt
@@ -106,6 +116,7 @@ module _ {K L : Type 0} {ck : K → K → Ordering} {cl : L → L → Ordering}
       undone integer_laws.amounts (falling_total ok ak) (falling_anti ok ak) (falling_anti ol al)
       (mono_image ck cl f) (mono_image cl ck g) p is.canonical (monos_back p is.monomials h)
 
+  -- where the polynomial comes back, its image is zero only if it is
   nothing_image : (p : PolyOver K) → poly_image cl ck g (poly_image ck cl f p) ≡ p →
       is_nothing p ≡ is_nothing (poly_image ck cl f p)
   nothing_image [] back = refl

@@ -48,6 +48,7 @@ first_is p q m n a b c d first other =
       | Greater ↦ λ e. absurd (not_above p q n m c d a b other first (total.antisymm n m ∙ ap ordering_reverse e))
     ] refl
 
+-- two verdicts No with the same sides are one
 one_no : (p q : Polynomial) (m n : Monomial) (a b c d : ℤ) → DifferFirst p q m a b → DifferFirst p q n c d →
     RingVerdict.No m a b ≡ RingVerdict.No n c d
 one_no p q m n a b c d first other =
@@ -63,10 +64,12 @@ left_of file e = numbered (own_table file e) (poly_of e.left)
 abbrev right_of : File → Equation → Polynomial
 right_of file e = numbered (own_table file e) (poly_of e.right)
 
+-- where the verdict is No, the polynomials differ
 pub no_differs : NoDiffers
 no_differs file e m a b h same =
     differ_nowhere (left_of file e) (right_of file e) m a b (ap (numbered (own_table file e)) same) h.1
 
+-- two verdicts on an equation are one
 pub one_ring_verdict : OneRingVerdict
 one_ring_verdict file e RingVerdict.Atoms RingVerdict.Atoms h g = refl
 one_ring_verdict file e RingVerdict.Atoms RingVerdict.Range h g = absurd (omega arith)
@@ -118,6 +121,7 @@ numbers_of file e t held =
     (atoms_in (IsNumbered atoms) [] t (recursion_from_All (IsNumbered atoms) (leaves [] t)
     (All-weaker (Contains atoms) (IsNumbered atoms) (contained_numbered atoms) (leaves [] t) held)))
 
+-- the monomial of No is one of either side
 pub no_is_over_the_table : NoIsOverTheTable
 no_is_over_the_table file e m a b h =
     let Over : Monomial → Type 0 = λ n. Each (λ k. k < length (own_table file e)) n in
