@@ -1,18 +1,36 @@
--- The leaves of a term of two parts are those of its parts.
-use Rattle.std.proofs.Common.{◌≡◌, ◌⊎◌, inl, inr, ℕ, List, ◌++◌, ap, ◌∙◌, sym}
-use Rattle.alg_terms.specs.declared.term.Term.{Term, Add, Sub, Mul, Div}
-use Rattle.alg_terms.specs.declared.term.Term.TheFolds.{fold-roll-Term}
-use Rattle.alg_terms.specs.declared.term.Term.TheOpen.{Term-F}
-use Rattle.alg_terms.specs.declared.term.Term.TheVariants.{rolls-Add, rolls-Sub, rolls-Mul, rolls-Div}
+-- The leaves of a term by those of its parts.
+use Rattle.std.proofs.Common.{◌≡◌, ◌⊎◌, inl, inr, ℕ, ℤ, List, [], ◌∷◌, ◌++◌, ap, ◌∙◌}
+use Rattle.alg_terms.specs.declared.term.Atom.{Atom}
+use Rattle.alg_terms.specs.declared.term.Term.{Term}
+use Rattle.alg_terms.specs.declared.term.Term.TheVariants.{Var, Int, Neg, Add, Sub, Mul, Div, Pow, Hom}
+use Rattle.alg_terms.proofs.Built.{fold_term-Var, fold_term-Int, fold_term-Neg, fold_term-Add, fold_term-Sub, fold_term-Mul, fold_term-Div, fold_term-Pow, fold_term-Hom}
 use Rattle.alg_reify.specs.Table.{leaves, node_leaves}
+
+-- what a fold gives at a path
+abbrev At : List ℕ → (List ℕ → List Atom) → List Atom
+At path f = f path
+
+-- one lemma for each kind of term
+pub leaves-Var : (path : List ℕ) (k : ℕ) → leaves path (Var k) ≡ record { path = path; var = k } ∷ []
+leaves-Var path k = ap (At path) (fold_term-Var node_leaves k)
+
+pub leaves-Int : (path : List ℕ) (n : ℤ) → leaves path (Int n) ≡ []
+leaves-Int path n = ap (At path) (fold_term-Int node_leaves n)
+
+pub leaves-Neg : (path : List ℕ) (t : Term) → leaves path (Neg t) ≡ leaves path t
+leaves-Neg path t = ap (At path) (fold_term-Neg node_leaves t)
+
+pub leaves-Pow : (path : List ℕ) (t : Term) (n : ℕ) → leaves path (Pow t n) ≡ leaves path t
+leaves-Pow path t n = ap (At path) (fold_term-Pow node_leaves t n)
+
+pub leaves-Hom : (path : List ℕ) (f : ℕ) (t : Term) → leaves path (Hom f t) ≡ leaves (path ++ f ∷ []) t
+leaves-Hom path f t = ap (At path) (fold_term-Hom node_leaves f t)
+
+pub ruleset leaves_built = (leaves-Var, leaves-Int, leaves-Neg, leaves-Pow, leaves-Hom)
 
 pub leaves-both : (path : List ℕ) (t l r : Term) → (t ≡ Add l r) ⊎ ((t ≡ Sub l r) ⊎ ((t ≡ Mul l r) ⊎ (t ≡ Div l r)))
     → leaves path t ≡ leaves path l ++ leaves path r
-leaves-both path t l r (inl e) =
-    ap (leaves path) (e ∙ sym (rolls-Add l r)) ∙ ap (λ f. f path) (fold-roll-Term _ node_leaves (Term-F.Add l r))
-leaves-both path t l r (inr (inl e)) =
-    ap (leaves path) (e ∙ sym (rolls-Sub l r)) ∙ ap (λ f. f path) (fold-roll-Term _ node_leaves (Term-F.Sub l r))
-leaves-both path t l r (inr (inr (inl e))) =
-    ap (leaves path) (e ∙ sym (rolls-Mul l r)) ∙ ap (λ f. f path) (fold-roll-Term _ node_leaves (Term-F.Mul l r))
-leaves-both path t l r (inr (inr (inr e))) =
-    ap (leaves path) (e ∙ sym (rolls-Div l r)) ∙ ap (λ f. f path) (fold-roll-Term _ node_leaves (Term-F.Div l r))
+leaves-both path t l r (inl e) = ap (leaves path) e ∙ ap (At path) (fold_term-Add node_leaves l r)
+leaves-both path t l r (inr (inl e)) = ap (leaves path) e ∙ ap (At path) (fold_term-Sub node_leaves l r)
+leaves-both path t l r (inr (inr (inl e))) = ap (leaves path) e ∙ ap (At path) (fold_term-Mul node_leaves l r)
+leaves-both path t l r (inr (inr (inr e))) = ap (leaves path) e ∙ ap (At path) (fold_term-Div node_leaves l r)

@@ -1,4 +1,16 @@
+pub mod Along
+pub mod AtomsIn
+pub mod Held
+pub mod Images
 pub mod Insertions
 pub mod Leaves
+pub mod Likes
+pub mod Made
+pub mod Numbering
 pub mod Once
+pub mod Parts
+pub mod Results
+pub mod Tried
+pub mod Undone
 pub mod Uses
+pub mod Verdicts

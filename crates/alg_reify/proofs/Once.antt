@@ -1,5 +1,5 @@
 -- Adding each member that is not there yet keeps each member once, where it occurs first.
-use Rattle.std.proofs.Common.{◌≡◌, ℕ, Bool, true, false, not, ◌&&◌, ◌||◌, cond, List, [], ◌∷◌, ◌++◌, filter, refl, sym, ◌∙◌, ap, append_assoc, ◌==◌, append-nil, Decides, nat_eq, arith}
+use Rattle.std.proofs.Common.{◌≡◌, Bool, true, false, not, ◌&&◌, ◌||◌, cond, List, [], ◌∷◌, ◌++◌, filter, refl, sym, ◌∙◌, ap, append_assoc, ◌==◌, append-nil, Decides}
 use Rattle.std.specs.List.{list_any}
 use Rattle.std.proofs.lemmas.List.Folds.{list_any-append}
 use Rattle.std.specs.Str.{bytes_eq}
@@ -21,9 +21,11 @@ filter_turn p y qs rs true c e h = rw e (ap (λ zs. cond (p y) (y ∷ zs) zs) h)
 filter_turn p y qs rs false c e h = rw e h
 
 -- a filter after another keeps what both keep
-filter_both : {A : Type 0} (p q r : A → Bool) → ((y : A) → r y ≡ (q y && p y)) → (ys : List A) → filter p (filter q ys) ≡ filter r ys
+filter_both : {A : Type 0} (p q r : A → Bool) → ((y : A) → r y ≡ (q y && p y)) → (ys : List A) →
+    filter p (filter q ys) ≡ filter r ys
 filter_both p q r same [] = refl
-filter_both p q r same (y ∷ ys) = filter_turn p y (filter q ys) (filter r ys) (q y) (r y) (same y) (filter_both p q r same ys)
+filter_both p q r same (y ∷ ys) = filter_turn p y (filter q ys) (filter r ys) (q y) (r y) (same y)
+    (filter_both p q r same ys)
 
 abbrev pub is_new : List Atom → Atom → Bool
 is_new ks y = not (list_any (atom_eq y) ks)
@@ -43,9 +45,12 @@ atoms_same a b h =
     let var = eqb-true a.var b.var parts.1 in
     λ i. record { path = path i; var = var i }
 
-atoms_decide : (a b : Atom) → Decides (atom_eq a b) (a ≡ b)
-atoms_decide a b =
-    (atoms_same a b, λ e. ap (atom_eq a) (sym e) ∙ all_true (bytes_eq a.path a.path) (a.var == a.var) ((bytes_eq-Decides a.path a.path).1 refl) (eq-eqb a.var a.var refl))
+pub atoms_decide : (a b : Atom) → Decides (atom_eq a b) (a ≡ b)
+atoms_decide a b = (
+  atoms_same a b,
+  λ e. ap (atom_eq a) (sym e) ∙ all_true (bytes_eq a.path a.path) (a.var == a.var)
+      ((bytes_eq-Decides a.path a.path).1 refl) (eq-eqb a.var a.var refl),
+)
 
 atom_eq-swap : (a b : Atom) → atom_eq a b ≡ atom_eq b a
 atom_eq-swap a b =
@@ -59,7 +64,8 @@ new_not_by ks a y h true e = ap (λ z. is_new ks z) (sym ((atoms_decide a y).0 e
 new_not_by ks a y h false e = refl
 
 -- where a is there already, no atom that is new is a
-new_not : (ks : List Atom) (a y : Atom) → list_any (atom_eq a) ks ≡ true → is_new ks y ≡ (not (atom_eq a y) && is_new ks y)
+new_not : (ks : List Atom) (a y : Atom) → list_any (atom_eq a) ks ≡ true →
+    is_new ks y ≡ (not (atom_eq a y) && is_new ks y)
 new_not ks a y h = new_not_by ks a y h (atom_eq a y) refl
 
 neither : (p q r : Bool) → q ≡ r → not (p || (q || false)) ≡ (not r && not p)
@@ -71,16 +77,21 @@ neither false false r e = rw (sym e) refl
 -- what is new after a was added is new and not a
 new_after : (ks : List Atom) (a y : Atom) → is_new (ks ++ a ∷ []) y ≡ (not (atom_eq a y) && is_new ks y)
 new_after ks a y =
-    ap not (list_any-append (atom_eq y) ks (a ∷ [])) ∙ neither (list_any (atom_eq y) ks) (atom_eq y a) (atom_eq a y) (atom_eq-swap y a)
+    ap not (list_any-append (atom_eq y) ks (a ∷ []))
+    ∙ neither (list_any (atom_eq y) ks) (atom_eq y a) (atom_eq a y) (atom_eq-swap y a)
 
 step : (ks : List Atom) (a : Atom) (xs : List Atom) (b : Bool) → list_any (atom_eq a) ks ≡ b
-    → insert_all atom_eq (cond b ks (ks ++ a ∷ [])) xs ≡ cond b ks (ks ++ a ∷ []) ++ filter (is_new (cond b ks (ks ++ a ∷ []))) (each_once xs)
+    → insert_all atom_eq (cond b ks (ks ++ a ∷ [])) xs ≡ cond b ks (ks ++ a ∷ []) ++ filter
+    (is_new (cond b ks (ks ++ a ∷ []))) (each_once xs)
     → insert_all atom_eq (cond b ks (ks ++ a ∷ [])) xs ≡ ks ++ filter (is_new ks) (each_once (a ∷ xs))
 step ks a xs true h rest =
-    rest ∙ ap (λ zs. ks ++ zs) (rw h (sym (filter_both (is_new ks) (λ y. not (atom_eq a y)) (is_new ks) (λ y. new_not ks a y h) (each_once xs))))
+    rest ∙ ap (λ zs. ks ++ zs) (rw h (sym (filter_both (is_new ks) (λ y. not (atom_eq a y)) (is_new ks)
+    (λ y. new_not ks a y h) (each_once xs))))
 step ks a xs false h rest =
-    let kept = filter_both (is_new ks) (λ y. not (atom_eq a y)) (is_new (ks ++ a ∷ [])) (λ y. new_after ks a y) (each_once xs) in
-    rest ∙ append_assoc ks (a ∷ []) (filter (is_new (ks ++ a ∷ [])) (each_once xs)) ∙ rw h (ap (λ zs. ks ++ a ∷ zs) (sym kept))
+    let kept = filter_both (is_new ks) (λ y. not (atom_eq a y)) (is_new (ks ++ a ∷ [])) (λ y. new_after ks a y)
+    (each_once xs) in
+    rest ∙ append_assoc ks (a ∷ []) (filter (is_new (ks ++ a ∷ [])) (each_once xs))
+    ∙ rw h (ap (λ zs. ks ++ a ∷ zs) (sym kept))
 
 pub insert_all-once : (ks xs : List Atom) → insert_all atom_eq ks xs ≡ ks ++ filter (is_new ks) (each_once xs)
 insert_all-once ks [] = sym (append-nil ks)

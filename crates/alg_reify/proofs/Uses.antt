@@ -11,4 +11,5 @@ use Rattle.alg_reify.specs.Table.{equation_leaves, use_leaves}
 pub use_leaves-at : (file : File) (u : Use) (h : Hyp) → u.hyp < length file.hyps → h ≡ get_or file.hyps u.hyp h
     → use_leaves file u ≡ equation_leaves u.path h.equation
 use_leaves-at file u h within is =
-    ap (λ o. option_map_or (λ g. equation_leaves u.path g.equation) o []) (slice_get_read file.hyps (length file.hyps) u.hyp h refl within is)
+    ap (λ o. option_map_or (λ g. equation_leaves u.path g.equation) o [])
+    (slice_get_read file.hyps (length file.hyps) u.hyp h refl within is)

@@ -6,10 +6,10 @@ use Rattle.std.specs.Option.{option_map_or}
 use Rattle.alg_terms.specs.declared.term.Atom.{Atom}
 use Rattle.alg_terms.specs.declared.term.Term.{Term}
 use Rattle.alg_terms.specs.declared.term.Term.TheOpen.{Term-F}
-use Rattle.alg_terms.specs.declared.term.Term.TheFolds.{fold-Term}
 use Rattle.alg_terms.specs.declared.file.File.{File}
 use Rattle.alg_terms.specs.declared.goals.Equation.{Equation}
 use Rattle.alg_terms.specs.declared.goals.Use.{Use}
+use Rattle.alg_terms.specs.Nodes.{fold_term}
 
 -- whether two atoms are one: the same variable under the same path
 abbrev pub atom_eq : Atom → Atom → Bool
@@ -29,7 +29,7 @@ node_leaves (Term-F.Hom f t) path = t (path ++ f ∷ [])
 
 -- the atoms of the leaves of a term under a path, from left to right
 abbrev pub leaves : List ℕ → Term → List Atom
-leaves path t = fold-Term (List ℕ → List Atom) node_leaves t path
+leaves path t = fold_term node_leaves t path
 
 -- each member once, where it occurs first
 abbrev pub each_once : List Atom → List Atom

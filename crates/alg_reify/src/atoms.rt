@@ -149,6 +149,7 @@ fn add_equation(
 }
 
 /// Adds the atoms of a term under a path, which is as before at the end.
+#[tactic(auto, using(crate::proofs::Leaves::leaves_built))]
 fn add_leaves(
     alloc: Global,
     set: &mut IndexSet<Atom>,

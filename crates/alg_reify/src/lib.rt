@@ -1,12 +1,20 @@
 //! The atoms of a goal, numbered, and the polynomials of terms over these numbers.
 //!
-//! A goal's table has its atoms in the order of their first occurrence ([`atoms_of`]). The words of
-//! the contracts are in `specs/Table.antt`.
+//! A goal's table has its atoms in the order of their first occurrence ([`atoms_of`]). [`reify`] makes
+//! the polynomial of a term over the numbers of a table, node by node, within the limits on norm and
+//! degree. `specs/RingVerdict.antt` defines the answer to a goal by ring, and [`laws`] has what holds
+//! of it. The words of the contracts are in `specs/Table.antt` and `specs/Numbered.antt`.
 #![tactic(auto)]
 
 mod atoms;
+pub mod laws;
+mod making;
+mod stop;
 #[cfg(test)]
 mod tests;
 
+pub use alg_poly::{Mono, Overrun, Poly};
 pub use alg_terms::NoMemory;
 pub use atoms::{Atoms, AtomsEnd, atoms_of};
+pub use making::reify;
+pub use stop::Stop;

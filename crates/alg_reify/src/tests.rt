@@ -1,9 +1,12 @@
-//! Tables: what stands in them, in which order, and how many atoms they may have.
+//! Tables: what stands in them, in which order, and how many atoms they may have. Polynomials over
+//! them.
 
-ghost use Rattle.std.specs.Prelude.{◌≡◌, IfOk, length};
+ghost use Rattle.std.specs.Prelude.{◌≡◌, ◌<◌, IfOk, length, pos};
+ghost use Rattle.alg_terms.specs.GoalRules.{IsEquation, DividesNowhere};
+ghost use Rattle.alg_reify.specs.Tried.{tried};
 
-use crate::{Atoms, AtomsEnd, NoMemory, atoms_of};
-use alg_terms::{Atom, Equation, File, Hyp, Name, Seq, Term, Use};
+use crate::{Atoms, AtomsEnd, NoMemory, Overrun, Poly, atoms_of, reify};
+use alg_terms::{Atom, Equation, File, Hyp, Name, Seq, Term, Use, VarDecl};
 use sqlite_items::Boxed;
 use std::alloc::Global;
 use std::test::Fail;
@@ -21,7 +24,9 @@ fn image(alloc: Global, morphism: u32, part: Term) -> Result<Term, NoMemory> {
     Ok(Term::Hom(morphism, Boxed::new(alloc, part)?))
 }
 
-fn sum(alloc: Global, left: Term, right: Term) -> Result<Term, NoMemory> {
+fn sum(alloc: Global, left: Term, right: Term) -> Result<Term, NoMemory>
+    ensures { IfOk result (λ term. term ≡ Term.Add left right) }
+{
     Ok(Term::Add(Boxed::new(alloc, left)?, Boxed::new(alloc, right)?))
 }
 
@@ -35,7 +40,8 @@ fn equation(left: Term, right: Term) -> Equation {
 
 // A file with one hypothesis.
 fn file_with(alloc: Global, hypothesis: Equation) -> Result<File, NoMemory>
-    ensures { IfOk result (λ file. length file.hyps ≡ 1) }
+    ensures hyps { IfOk result (λ file. length file.hyps ≡ 1) }
+    ensures vars { IfOk result (λ file. length file.vars ≡ 0) }
 {
     let mut hyps = Seq::from_vec(Vec::new(alloc));
     hyps.push(Hyp {
@@ -125,6 +131,97 @@ fn a_table_has_at_most_1000_atoms(rt: HostRuntime) -> Result<(), Fail> {
     ] {
         let table = table_of_variables(rt.alloc(), count)?;
         assert_eq!(rt; table.map(|atoms| atoms.len()), want, "{count} variables");
+    }
+    Ok(())
+}
+
+// var x : R.
+fn one_variable(alloc: Global) -> Result<File, NoMemory>
+    ensures { IfOk result (λ file. length file.vars ≡ 1) }
+{
+    let mut file = file_with(alloc, equation(Term::Var(X), Term::Int(0)))?;
+    file.vars.push(VarDecl {
+        name: Name::new(alloc, "x")?,
+        sort: 0,
+    })?;
+    Ok(file)
+}
+
+// (k*x)^n*x + c
+fn side(alloc: Global, k: u64, n: u32, c: u64) -> Result<Term, NoMemory>
+    ensures { IfOk result (λ term. term ≡ tried (pos k) n (pos c)) }
+{
+    let base = Term::Mul(
+        Boxed::new(alloc, Term::Int(i128::from(k)))?,
+        Boxed::new(alloc, Term::Var(X))?,
+    );
+    let power = Term::Pow(Boxed::new(alloc, base)?, n);
+    let product = Term::Mul(Boxed::new(alloc, power)?, Boxed::new(alloc, Term::Var(X))?);
+    sum(alloc, product, Term::Int(i128::from(c)))
+}
+
+// (k*x)^n*x + c = (k*x)^n*x + c
+fn tried_equation(alloc: Global, file: &File, k: u64, n: u32, c: u64) -> Result<Equation, NoMemory>
+    requires { 0 < length file.now.vars }
+    ensures { IfOk result (λ e. IsEquation file.now e × DividesNowhere e) }
+{
+    let n = n.min(1000);
+    Ok(Equation {
+        sort: file.vars.items()[0].sort,
+        left: side(alloc, k, n, c)?,
+        right: side(alloc, k, n, c)?,
+    })
+}
+
+// The polynomial of the left side, over the equation's table.
+fn left_side(
+    alloc: Global,
+    file: &File,
+    equation: &Equation,
+) -> Result<Result<Poly, Overrun>, AtomsEnd>
+    requires equation { IsEquation file.now equation.now }
+    requires plain { DividesNowhere equation.now }
+{
+    let table = atoms_of(alloc, file, equation, &[])?;
+    Ok(reify(alloc, file, &[], &equation.left, &table))
+}
+
+// The exponent of the first atom, and the coefficient, of each term.
+fn terms(alloc: Global, poly: &Poly) -> Result<Vec<(u32, i128)>, NoMemory> {
+    let mut terms = Vec::new(alloc);
+    for (mono, coefficient) in poly.terms() {
+        terms.push((mono.exponent(0), *coefficient))?;
+    }
+    Ok(terms)
+}
+
+// Each row: k, n and c, and the terms of (k*x)^n*x + c.
+#[test]
+fn a_polynomial_is_made_within_the_limits(rt: HostRuntime) -> Result<(), Fail> {
+    let alloc = rt.alloc();
+    let file = one_variable(alloc)?;
+    let rows: [(u64, u32, u64, Result<&[(u32, i128)], Overrun>); 6] = [
+        (3, 1, 5, Ok(&[(2, 3), (0, 5)])),
+        (2, 3, 0, Ok(&[(4, 8)])),
+        (0, 2, 7, Ok(&[(0, 7)])),
+        (0, 2, 0, Ok(&[])),
+        (1, 1000, 0, Err(Overrun::Degree)),
+        (2, 127, 0, Err(Overrun::Range)),
+    ];
+    for (k, n, c, want) in rows {
+        let equation = tried_equation(alloc, &file, k, n, c)?;
+        let made = left_side(alloc, &file, &equation)?;
+        match (made, want) {
+            (Ok(poly), Ok(want)) => {
+                assert_eq!(rt;
+                    terms(alloc, &poly)?.as_slice(),
+                    want,
+                    "k {k}, n {n}, c {c}"
+                );
+            }
+            (Err(end), Err(want)) => assert_eq!(rt; end, want, "k {k}, n {n}, c {c}"),
+            _ => panic!(rt; "k {k}, n {n}, c {c}"),
+        }
     }
     Ok(())
 }

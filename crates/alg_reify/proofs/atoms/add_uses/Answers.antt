@@ -12,7 +12,9 @@ returns-in_err-add_use c =
     let keys = c.loop-used.set.keys in
     let used = c.used-item.result in
     let rest = flat_map (use_leaves file) (drop (c.loop-used.used-index + 1) c.args.uses.now) in
-    let more = at_drop_more (λ us. insert_all atom_eq keys (flat_map (use_leaves file) us)) c.args.uses.now c.loop-used.used-index used c.loop-used-test.true in
+    let more = at_drop_more (λ us. insert_all atom_eq keys (flat_map (use_leaves file) us)) c.args.uses.now
+    c.loop-used.used-index used c.loop-used-test.true in
     let here = ap (λ u. insert_all atom_eq keys (use_leaves file u ++ rest)) c.used-item.is in
-    adds_failed_on keys _ _ c.args.set.now.keys _ _ (use_leaves file used) rest (flat_map (use_leaves file) c.args.uses.now)
+    adds_failed_on keys _ _ c.args.set.now.keys _ _ (use_leaves file used) rest
+    (flat_map (use_leaves file) c.args.uses.now)
     c.from_residual.ensures.1 c.in_err-add_use.ensures (here ∙ sym more ∙ c.loop-used.invariant.left)

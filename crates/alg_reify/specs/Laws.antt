@@ -1,0 +1,25 @@
+-- What holds of the verdicts by ring.
+use Rattle.std.specs.Prelude.{◌≡◌, ◌≢◌, ◌<◌, ℤ, length}
+use Rattle.alg_terms.specs.declared.file.File.{File}
+use Rattle.alg_terms.specs.declared.goals.Equation.{Equation}
+use Rattle.alg_mono.specs.FiniteMaps.{Each}
+use Rattle.alg_poly.specs.Poly.{Monomial}
+use Rattle.alg_meaning.specs.PolynomialOf.{poly_of}
+use Rattle.alg_reify.specs.RingVerdict.{RingVerdict, IsRingVerdict, own_table}
+
+-- an equation has at most one verdict
+abbrev pub OneRingVerdict : Type 0
+OneRingVerdict =
+    (file : File) (e : Equation) (v w : RingVerdict) → IsRingVerdict file e v → IsRingVerdict file e w → v ≡ w
+
+-- where the verdict is No, the sides are different polynomials
+abbrev pub NoDiffers : Type 0
+NoDiffers =
+    (file : File) (e : Equation) (m : Monomial) (a b : ℤ) → IsRingVerdict file e (RingVerdict.No m a b) →
+    poly_of e.left ≢ poly_of e.right
+
+-- the monomial of a verdict No is over atoms of the equation's table
+abbrev pub NoIsOverTheTable : Type 0
+NoIsOverTheTable =
+    (file : File) (e : Equation) (m : Monomial) (a b : ℤ) → IsRingVerdict file e (RingVerdict.No m a b) →
+    Each (λ k. k < length (own_table file e)) m

@@ -1,0 +1,24 @@
+-- What it is to make a polynomial, and what a term must be for it.
+use Rattle.std.specs.Prelude.{◌≡◌, ℕ, List, All, Contains}
+use Rattle.std.specs.declared.result.Result.{Result}
+use Rattle.std.specs.declared.result.Result.TheVariants.{Ok, Err}
+use Rattle.alg_terms.specs.declared.term.Atom.{Atom}
+use Rattle.alg_terms.specs.declared.term.Term.{Term}
+use Rattle.alg_terms.specs.Nodes.{EachNode}
+use Rattle.alg_terms.specs.TermRules.{HasLiteral, HasNoQuotient}
+use Rattle.alg_mono.specs.declared.ends.Overrun.{Overrun}
+use Rattle.alg_mono.specs.Outcomes.{Outcome}
+use Rattle.alg_mono.specs.Polynomials.{PolyOver}
+use Rattle.alg_mono.specs.Refusals.{Tells}
+use Rattle.alg_reify.specs.Table.{leaves}
+
+-- this polynomial is made where no rule is broken, and else the broken rule is told
+abbrev pub Makes : PolyOver ℕ → Outcome → Result (PolyOver ℕ) Overrun → Type 0
+Makes p outcome (Ok q) = (q ≡ p) × (outcome ≡ Outcome.Fine)
+Makes p outcome (Err e) = Tells e outcome
+
+-- a term with literals of the format and no quotients, whose atoms under the path are all in the table
+pub record IsOver (atoms : List Atom) (path : List ℕ) (t : Term) : Type 0 where
+  pub literals : EachNode HasLiteral t
+  pub plain : HasNoQuotient t
+  pub held : All (Contains atoms) (leaves path t)

@@ -1,0 +1,97 @@
+//! The polynomial of a term over the numbers of a table's atoms.
+
+ghost use Rattle.std.specs.Prelude.{◌≡◌, IfOk, IfErr, OnOk, All, Contains};
+ghost use Rattle.alg_terms.specs.TermRules.{IsTerm, HasNoQuotient};
+ghost use Rattle.alg_mono.specs.Outcomes.{Outcome};
+ghost use Rattle.alg_mono.specs.Refusals.{Tells};
+ghost use Rattle.alg_poly.specs.Poly.{atom_of};
+ghost use Rattle.alg_meaning.specs.PolynomialOf.{poly_of_under};
+ghost use Rattle.alg_meaning.specs.TermOutcome.{term_outcome};
+ghost use Rattle.alg_reify.specs.Table.{leaves};
+ghost use Rattle.alg_reify.specs.Numbered.{number_of, numbered};
+ghost use Rattle.alg_reify.specs.Making.{Makes, IsOver};
+
+use crate::{Atoms, NoMemory};
+use alg_poly::{Overrun, Poly};
+use alg_terms::{Atom, File, Seq, Term};
+use std::alloc::Global;
+
+/// The polynomial of a term of the file under a path of morphisms, the outermost first, over the
+/// numbers of the atoms in the table. The term has no quotients, and the table holds its atoms.
+///
+/// It is made node by node in postorder: `Range` or `Degree` exactly where the first node that breaks
+/// a rule breaks that one. Each node costs one operation on polynomials, and each variable one
+/// look-up of its atom.
+pub fn reify(
+    alloc: Global,
+    file: &File,
+    path: &[u32],
+    term: &Term,
+    table: &Atoms,
+) -> Result<Poly, Overrun>
+    requires term { IsTerm file.now term.now }
+    requires plain { HasNoQuotient term.now }
+    requires held { All (Contains table.now) (leaves path.now term.now) }
+    ensures ok { IfOk result (λ p. p ≡ numbered table.now (poly_of_under path.now term.now)) }
+    ensures fine { OnOk result (term_outcome term.now ≡ Outcome.Fine) }
+    ensures refused { IfErr result (λ e. Tells e (term_outcome term.now)) }
+{
+    let mut path = Vec::from_slice(alloc, path)?;
+    make(alloc, table, &mut path, term)
+}
+
+/// The polynomial of a term under a path, which is as before at the end.
+fn make(alloc: Global, table: &Atoms, path: &mut Vec<u32>, term: &Term) -> Result<Poly, Overrun>
+    requires { IsOver table.now path.old.items term.now }
+    ensures path { OnOk result (path.new.items ≡ path.old.items) }
+    ensures makes { Makes (numbered table.now (poly_of_under path.old.items term.now))
+        (term_outcome term.now) result }
+{
+    match term {
+        Term::Int(value) => Ok(Poly::constant(alloc, *value)?),
+        Term::Var(var) => Ok(make_atom(alloc, table, path.as_slice(), *var)?),
+        Term::Neg(part) => {
+            let part = make(alloc, table, path, part.get())?;
+            Ok(part.neg(alloc)?)
+        }
+        Term::Add(left, right) => {
+            let left = make(alloc, table, path, left.get())?;
+            let right = make(alloc, table, path, right.get())?;
+            left.add(alloc, &right)
+        }
+        Term::Sub(left, right) => {
+            let left = make(alloc, table, path, left.get())?;
+            let right = make(alloc, table, path, right.get())?;
+            left.sub(alloc, &right)
+        }
+        Term::Mul(left, right) => {
+            let left = make(alloc, table, path, left.get())?;
+            let right = make(alloc, table, path, right.get())?;
+            left.times(alloc, &right)
+        }
+        Term::Pow(part, exponent) => {
+            let part = make(alloc, table, path, part.get())?;
+            part.power(alloc, *exponent)
+        }
+        Term::Hom(morphism, part) => {
+            path.push(*morphism)?;
+            let image = make(alloc, table, path, part.get())?;
+            path.pop();
+            Ok(image)
+        }
+        Term::Div(_, _) => unreachable!(),
+    }
+}
+
+/// The polynomial that is one atom of the table.
+fn make_atom(alloc: Global, table: &Atoms, path: &[u32], var: u32) -> Result<Poly, NoMemory>
+    requires { Contains table.now (record { path = path.now; var = var }) }
+    ensures { IfOk result (λ p.
+        p ≡ atom_of (number_of table.now (record { path = path.now; var = var }))) }
+{
+    let path = Seq::from_vec(Vec::from_slice(alloc, path)?);
+    match table.find(&Atom { path, var }) {
+        Some(number) => Poly::atom(alloc, number),
+        None => unreachable!(),
+    }
+}

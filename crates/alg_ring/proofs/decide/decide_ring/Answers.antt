@@ -1,0 +1,27 @@
+use Rattle.std.proofs.Common.{List, [], All, Contains, sym, subst}
+use Rattle.alg_terms.specs.declared.term.Atom.{Atom}
+use Rattle.alg_reify.specs.Table.{leaves}
+use Rattle.alg_reify.proofs.Held.{held_left, held_right}
+use Rattle.alg_ring.proofs.Comparing.{answered}
+use Rattle.alg_ring.proofs.decide.decide_ring.Goals as goal
+
+-- the table holds the atoms of the left side
+pub reify-requires-clause-held : goal.reify-requires-clause-held
+reify-requires-clause-held c =
+    let P : List Atom → Type 0 = λ atoms. All (Contains atoms) (leaves [] c.args.equation.now.left) in
+    subst P (sym c.in_ok-table.ensures.ok) (held_left c.args.file.now c.args.equation.now [])
+
+-- and of the right side
+pub reify-requires-2-clause-held : goal.reify-requires-2-clause-held
+reify-requires-2-clause-held c =
+    let P : List Atom → Type 0 = λ atoms. All (Contains atoms) (leaves [] c.args.equation.now.right) in
+    subst P (sym c.in_ok-table.ensures.ok) (held_right c.args.file.now c.args.equation.now [])
+
+-- both sides were made and compared
+pub returns-clause-answer : goal.returns-clause-answer
+returns-clause-answer c =
+    answered c.args.file.now c.args.equation.now c.in_ok-table.ensures.small c.in_ok-left.ensures.fine
+    c.in_ok-right.ensures.fine
+    c.in_ok-table.table _ _ c.in_ok-compare.field-0 c.in_ok-table.ensures.ok c.in_ok-left.ensures.ok
+    c.in_ok-right.ensures.ok
+    c.in_ok-compare.ensures

@@ -1,0 +1,3 @@
+pub mod Answers
+pub mod Laws
+pub use Rattle.alg_reify.specs.RingVerdict
