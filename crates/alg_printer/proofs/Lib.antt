@@ -1,3 +1,5 @@
 pub mod Named
+pub mod Numbers
+pub mod Paths
 pub mod Pieces
 pub mod TermTexts

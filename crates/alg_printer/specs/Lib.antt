@@ -1,1 +1,6 @@
+pub mod Answers
+pub mod Monomials
+pub mod Printable
+pub mod Statements
 pub mod Terms
+pub mod Text

@@ -5,7 +5,12 @@
 //! defined in `specs/Printable.antt`.
 #![tactic(auto)]
 
+mod answers;
+
+mod monomials;
+mod statements;
 mod terms;
 mod text;
 
 pub use alg_terms::NoMemory;
+

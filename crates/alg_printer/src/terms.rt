@@ -9,7 +9,7 @@ use crate::text::Text;
 use alg_terms::{File, Term};
 
 /// The name of a variable.
-pub(crate) fn variable(text: &mut Text, file: &File, number: u32) -> Result<(), NoMemory>
+pub(crate) fn put_variable(text: &mut Text, file: &File, number: u32) -> Result<(), NoMemory>
     requires { number < length file.now.vars }
     ensures { OnOk result (text.new ≡ text.old ++ var_name file.now number) }
 {
@@ -18,7 +18,7 @@ pub(crate) fn variable(text: &mut Text, file: &File, number: u32) -> Result<(), 
 }
 
 /// The name of a morphism.
-pub(crate) fn morphism(text: &mut Text, file: &File, number: u32) -> Result<(), NoMemory>
+pub(crate) fn put_morphism(text: &mut Text, file: &File, number: u32) -> Result<(), NoMemory>
     requires { number < length file.now.homs }
     ensures { OnOk result (text.new ≡ text.old ++ hom_name file.now number) }
 {
@@ -43,61 +43,61 @@ fn level(term: &Term) -> u8
 /// A part of a term where a level is wanted.
 #[tactic(auto, using(alg_terms::proofs::Built::built))]
 #[cycle(printing)]
-fn part(text: &mut Text, file: &File, term: &Term, wanted: u8) -> Result<(), NoMemory>
+fn put_part(text: &mut Text, file: &File, term: &Term, wanted: u8) -> Result<(), NoMemory>
     requires { IsNamed file.now term.now }
     ensures { OnOk result (text.new ≡ text.old ++ part_text wanted (printed file.now term.now)) }
 {
     if level(term) >= wanted {
-        return self::term(text, file, term);
+        return put_term(text, file, term);
     }
     text.put(b"(")?;
-    self::term(text, file, term)?;
+    put_term(text, file, term)?;
     text.put(b")")
 }
 
 /// A term.
 #[tactic(auto, using(alg_terms::proofs::Built::built))]
 #[cycle(printing)]
-pub(crate) fn term(text: &mut Text, file: &File, term: &Term) -> Result<(), NoMemory>
+pub(crate) fn put_term(text: &mut Text, file: &File, term: &Term) -> Result<(), NoMemory>
     requires { IsNamed file.now term.now }
     ensures { OnOk result (text.new ≡ text.old ++ term_text file.now term.now) }
 {
     match term {
-        Term::Var(number) => variable(text, file, *number),
+        Term::Var(number) => put_variable(text, file, *number),
         Term::Int(value) => text.integer(*value),
         Term::Neg(inner) => {
             text.put(b"-")?;
-            part(text, file, inner.get(), 3)
+            put_part(text, file, inner.get(), 3)
         }
         Term::Add(left, right) => {
-            part(text, file, left.get(), 1)?;
+            put_part(text, file, left.get(), 1)?;
             text.put(b" + ")?;
-            part(text, file, right.get(), 2)
+            put_part(text, file, right.get(), 2)
         }
         Term::Sub(left, right) => {
-            part(text, file, left.get(), 1)?;
+            put_part(text, file, left.get(), 1)?;
             text.put(b" - ")?;
-            part(text, file, right.get(), 2)
+            put_part(text, file, right.get(), 2)
         }
         Term::Mul(left, right) => {
-            part(text, file, left.get(), 2)?;
+            put_part(text, file, left.get(), 2)?;
             text.put(b"*")?;
-            part(text, file, right.get(), 3)
+            put_part(text, file, right.get(), 3)
         }
         Term::Div(left, right) => {
-            part(text, file, left.get(), 2)?;
+            put_part(text, file, left.get(), 2)?;
             text.put(b"/")?;
-            part(text, file, right.get(), 3)
+            put_part(text, file, right.get(), 3)
         }
         Term::Pow(inner, exponent) => {
-            part(text, file, inner.get(), 5)?;
+            put_part(text, file, inner.get(), 5)?;
             text.put(b"^")?;
             text.natural(*exponent)
         }
         Term::Hom(number, inner) => {
-            morphism(text, file, *number)?;
+            put_morphism(text, file, *number)?;
             text.put(b"(")?;
-            self::term(text, file, inner.get())?;
+            put_term(text, file, inner.get())?;
             text.put(b")")
         }
     }

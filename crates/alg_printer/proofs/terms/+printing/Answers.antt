@@ -8,103 +8,103 @@ use Rattle.alg_printer.proofs.TermTexts.{text-Var, text-Int, text-Neg, text-Pow,
 use Rattle.alg_printer.proofs.terms.+printing.Goals as goal
 
 -- what is printed is of the file
-pub term-variable-requires : goal.term-variable-requires
-term-variable-requires t c = named-Var c.args.file.now _ _ c.in-Var.is c.requires
+pub put_term-put_variable-requires : goal.put_term-put_variable-requires
+put_term-put_variable-requires t c = named-Var c.args.file.now _ _ c.in-Var.is c.requires
 
-pub term-morphism-requires : goal.term-morphism-requires
-term-morphism-requires t c = named-Hom c.args.file.now _ _ _ c.in-Hom.is c.requires
+pub put_term-put_morphism-requires : goal.put_term-put_morphism-requires
+put_term-put_morphism-requires t c = named-Hom c.args.file.now _ _ _ c.in-Hom.is c.requires
 
-pub term-part-requires : goal.term-part-requires
-term-part-requires t c =
+pub put_term-put_part-requires : goal.put_term-put_part-requires
+put_term-put_part-requires t c =
     (search (rules, the_lemmas), named-Neg c.args.file.now _ _ _ c.in-Neg.is c.get.ensures c.requires)
 
-pub term-part-requires-in-Pow : goal.term-part-requires-in-Pow
-term-part-requires-in-Pow t c =
+pub put_term-put_part-requires-in-Pow : goal.put_term-put_part-requires-in-Pow
+put_term-put_part-requires-in-Pow t c =
     (search (rules, the_lemmas), named-Pow c.args.file.now _ _ _ _ c.in-Pow.is c.get-in-Pow.ensures c.requires)
 
-pub term-term-requires : goal.term-term-requires
-term-term-requires t c =
+pub put_term-put_term-requires : goal.put_term-put_term-requires
+put_term-put_term-requires t c =
     (search (rules, the_lemmas), named-Hom-part c.args.file.now _ _ _ _ c.in-Hom.is c.get-in-Hom.ensures c.requires)
 
-pub term-part-requires-in-Add : goal.term-part-requires-in-Add
-term-part-requires-in-Add t c =
+pub put_term-put_part-requires-in-Add : goal.put_term-put_part-requires-in-Add
+put_term-put_part-requires-in-Add t c =
     (search (rules, the_lemmas), named-Add-left c.args.file.now _ _ _ _ c.in-Add.is c.get-in-Add.ensures c.requires)
 
-pub term-part-requires-in-Add-2 : goal.term-part-requires-in-Add-2
-term-part-requires-in-Add-2 t c =
+pub put_term-put_part-requires-in-Add-2 : goal.put_term-put_part-requires-in-Add-2
+put_term-put_part-requires-in-Add-2 t c =
     (search (rules, the_lemmas), named-Add-right c.args.file.now _ _ _ _ c.in-Add.is c.get-in-Add-2.ensures c.requires)
 
-pub term-part-requires-in-Sub : goal.term-part-requires-in-Sub
-term-part-requires-in-Sub t c =
+pub put_term-put_part-requires-in-Sub : goal.put_term-put_part-requires-in-Sub
+put_term-put_part-requires-in-Sub t c =
     (search (rules, the_lemmas), named-Sub-left c.args.file.now _ _ _ _ c.in-Sub.is c.get-in-Sub.ensures c.requires)
 
-pub term-part-requires-in-Sub-2 : goal.term-part-requires-in-Sub-2
-term-part-requires-in-Sub-2 t c =
+pub put_term-put_part-requires-in-Sub-2 : goal.put_term-put_part-requires-in-Sub-2
+put_term-put_part-requires-in-Sub-2 t c =
     (search (rules, the_lemmas), named-Sub-right c.args.file.now _ _ _ _ c.in-Sub.is c.get-in-Sub-2.ensures c.requires)
 
-pub term-part-requires-in-Mul : goal.term-part-requires-in-Mul
-term-part-requires-in-Mul t c =
+pub put_term-put_part-requires-in-Mul : goal.put_term-put_part-requires-in-Mul
+put_term-put_part-requires-in-Mul t c =
     (search (rules, the_lemmas), named-Mul-left c.args.file.now _ _ _ _ c.in-Mul.is c.get-in-Mul.ensures c.requires)
 
-pub term-part-requires-in-Mul-2 : goal.term-part-requires-in-Mul-2
-term-part-requires-in-Mul-2 t c =
+pub put_term-put_part-requires-in-Mul-2 : goal.put_term-put_part-requires-in-Mul-2
+put_term-put_part-requires-in-Mul-2 t c =
     (search (rules, the_lemmas), named-Mul-right c.args.file.now _ _ _ _ c.in-Mul.is c.get-in-Mul-2.ensures c.requires)
 
-pub term-part-requires-in-Div : goal.term-part-requires-in-Div
-term-part-requires-in-Div t c =
+pub put_term-put_part-requires-in-Div : goal.put_term-put_part-requires-in-Div
+put_term-put_part-requires-in-Div t c =
     (search (rules, the_lemmas), named-Div-left c.args.file.now _ _ _ _ c.in-Div.is c.get-in-Div.ensures c.requires)
 
-pub term-part-requires-in-Div-2 : goal.term-part-requires-in-Div-2
-term-part-requires-in-Div-2 t c =
+pub put_term-put_part-requires-in-Div-2 : goal.put_term-put_part-requires-in-Div-2
+put_term-put_part-requires-in-Div-2 t c =
     (search (rules, the_lemmas), named-Div-right c.args.file.now _ _ _ _ c.in-Div.is c.get-in-Div-2.ensures c.requires)
 
 -- the text grew by that of the node
-pub term-returns-in-Var : goal.term-returns-in-Var
-term-returns-in-Var t c =
-    on_ok c.variable.result _ _ (λ h. h ∙ ap (λ l. c.args.text.now ++ l) (sym (text-Var c.args.file.now _ _ c.in-Var.is))) c.variable.ensures
+pub put_term-returns-in-Var : goal.put_term-returns-in-Var
+put_term-returns-in-Var t c =
+    on_ok c.put_variable.result _ _ (λ h. h ∙ ap (λ l. c.args.text.now ++ l) (sym (text-Var c.args.file.now _ _ c.in-Var.is))) c.put_variable.ensures
 
-pub term-returns-in-Int : goal.term-returns-in-Int
-term-returns-in-Int t c =
+pub put_term-returns-in-Int : goal.put_term-returns-in-Int
+put_term-returns-in-Int t c =
     let fits : SFits w128 c.in-Int.value = search rules in
     on_ok c.integer.result _ _ (λ h. h ∙ ap (λ l. c.args.text.now ++ l) (sym (text-Int c.args.file.now _ _ c.in-Int.is)))
     (simp to_z-of_z at c.integer.ensures)
 
-pub term-returns-in_ok-put-in-Neg : goal.term-returns-in_ok-put-in-Neg
-term-returns-in_ok-put-in-Neg t c =
-    grew_2 c.part.result _ _ _ _ _ _ (text-Neg c.args.file.now _ _ _ c.in-Neg.is c.get.ensures)
-    c.in_ok-put-in-Neg.ensures c.part.ensures
+pub put_term-returns-in_ok-put-in-Neg : goal.put_term-returns-in_ok-put-in-Neg
+put_term-returns-in_ok-put-in-Neg t c =
+    grew_2 c.put_part.result _ _ _ _ _ _ (text-Neg c.args.file.now _ _ _ c.in-Neg.is c.get.ensures)
+    c.in_ok-put-in-Neg.ensures c.put_part.ensures
 
-pub term-returns-in_ok-put-in-Pow : goal.term-returns-in_ok-put-in-Pow
-term-returns-in_ok-put-in-Pow t c =
+pub put_term-returns-in_ok-put-in-Pow : goal.put_term-returns-in_ok-put-in-Pow
+put_term-returns-in_ok-put-in-Pow t c =
     grew_3 c.natural.result _ _ _ _ _ _ _ _ (text-Pow c.args.file.now _ _ _ _ c.in-Pow.is c.get-in-Pow.ensures)
-    c.in_ok-part-in-Pow.ensures c.in_ok-put-in-Pow.ensures c.natural.ensures
+    c.in_ok-put_part-in-Pow.ensures c.in_ok-put-in-Pow.ensures c.natural.ensures
 
-pub term-returns-in_ok-term-in-Hom : goal.term-returns-in_ok-term-in-Hom
-term-returns-in_ok-term-in-Hom t c =
+pub put_term-returns-in_ok-put_term-in-Hom : goal.put_term-returns-in_ok-put_term-in-Hom
+put_term-returns-in_ok-put_term-in-Hom t c =
     grew_4 c.put-in-Hom-2.result _ _ _ _ _ _ _ _ _ _
     (text-Hom c.args.file.now _ _ _ _ c.in-Hom.is c.get-in-Hom.ensures ∙ in_front (hom_name c.args.file.now c.in-Hom.number) (codes "(") (term_text c.args.file.now c.get-in-Hom.result.now) (codes ")"))
-    c.in_ok-morphism-in-Hom.ensures c.in_ok-put-in-Hom.ensures c.in_ok-term-in-Hom.ensures c.put-in-Hom-2.ensures
+    c.in_ok-put_morphism-in-Hom.ensures c.in_ok-put-in-Hom.ensures c.in_ok-put_term-in-Hom.ensures c.put-in-Hom-2.ensures
 
-pub term-returns-in_ok-put-in-Add : goal.term-returns-in_ok-put-in-Add
-term-returns-in_ok-put-in-Add t c =
-    grew_3 c.part-in-Add-2.result _ _ _ _ _ _ _ _
+pub put_term-returns-in_ok-put-in-Add : goal.put_term-returns-in_ok-put-in-Add
+put_term-returns-in_ok-put-in-Add t c =
+    grew_3 c.put_part-in-Add-2.result _ _ _ _ _ _ _ _
     (text-Add c.args.file.now _ _ _ _ _ c.in-Add.is c.get-in-Add.ensures c.get-in-Add-2.ensures)
-    c.in_ok-part-in-Add.ensures c.in_ok-put-in-Add.ensures c.part-in-Add-2.ensures
+    c.in_ok-put_part-in-Add.ensures c.in_ok-put-in-Add.ensures c.put_part-in-Add-2.ensures
 
-pub term-returns-in_ok-put-in-Sub : goal.term-returns-in_ok-put-in-Sub
-term-returns-in_ok-put-in-Sub t c =
-    grew_3 c.part-in-Sub-2.result _ _ _ _ _ _ _ _
+pub put_term-returns-in_ok-put-in-Sub : goal.put_term-returns-in_ok-put-in-Sub
+put_term-returns-in_ok-put-in-Sub t c =
+    grew_3 c.put_part-in-Sub-2.result _ _ _ _ _ _ _ _
     (text-Sub c.args.file.now _ _ _ _ _ c.in-Sub.is c.get-in-Sub.ensures c.get-in-Sub-2.ensures)
-    c.in_ok-part-in-Sub.ensures c.in_ok-put-in-Sub.ensures c.part-in-Sub-2.ensures
+    c.in_ok-put_part-in-Sub.ensures c.in_ok-put-in-Sub.ensures c.put_part-in-Sub-2.ensures
 
-pub term-returns-in_ok-put-in-Mul : goal.term-returns-in_ok-put-in-Mul
-term-returns-in_ok-put-in-Mul t c =
-    grew_3 c.part-in-Mul-2.result _ _ _ _ _ _ _ _
+pub put_term-returns-in_ok-put-in-Mul : goal.put_term-returns-in_ok-put-in-Mul
+put_term-returns-in_ok-put-in-Mul t c =
+    grew_3 c.put_part-in-Mul-2.result _ _ _ _ _ _ _ _
     (text-Mul c.args.file.now _ _ _ _ _ c.in-Mul.is c.get-in-Mul.ensures c.get-in-Mul-2.ensures)
-    c.in_ok-part-in-Mul.ensures c.in_ok-put-in-Mul.ensures c.part-in-Mul-2.ensures
+    c.in_ok-put_part-in-Mul.ensures c.in_ok-put-in-Mul.ensures c.put_part-in-Mul-2.ensures
 
-pub term-returns-in_ok-put-in-Div : goal.term-returns-in_ok-put-in-Div
-term-returns-in_ok-put-in-Div t c =
-    grew_3 c.part-in-Div-2.result _ _ _ _ _ _ _ _
+pub put_term-returns-in_ok-put-in-Div : goal.put_term-returns-in_ok-put-in-Div
+put_term-returns-in_ok-put-in-Div t c =
+    grew_3 c.put_part-in-Div-2.result _ _ _ _ _ _ _ _
     (text-Div c.args.file.now _ _ _ _ _ c.in-Div.is c.get-in-Div.ensures c.get-in-Div-2.ensures)
-    c.in_ok-part-in-Div.ensures c.in_ok-put-in-Div.ensures c.part-in-Div-2.ensures
+    c.in_ok-put_part-in-Div.ensures c.in_ok-put-in-Div.ensures c.put_part-in-Div-2.ensures
