@@ -26,23 +26,31 @@ constants_text constants = listed (codes " if ") (codes ", ") (λ c. signed_deci
 abbrev pub multiple_text : File → List Atom → ℤ → Pairs → ℕ → List ℕ
 multiple_text file atoms a m i = signed_decimal a ++ codes ", " ++ mono_text file atoms m ++ codes ", " ++ decimal i
 
+-- the divisor of a combination, at the end of its line
+abbrev pub divisor_text : ℤ → List ℕ
+divisor_text d = codes " over " ++ signed_decimal d ++ codes ".\n"
+
 -- a line of a certificate
 abbrev pub line_text : File → List Atom → Line → List ℕ
 line_text file atoms line =
     codes "  line " ++ multiple_text file atoms line.a line.m line.i ++ codes " minus "
-    ++ multiple_text file atoms line.b line.n line.j ++ codes " over " ++ signed_decimal line.d ++ codes ".\n"
+    ++ multiple_text file atoms line.b line.n line.j ++ divisor_text line.d
 
 -- a step of a certificate
 abbrev pub step_text : File → List Atom → GoalStep → List ℕ
 step_text file atoms step =
     codes "  step " ++ signed_decimal step.a ++ codes " minus " ++ multiple_text file atoms step.b step.n step.j
-    ++ codes " over " ++ signed_decimal step.d ++ codes ".\n"
+    ++ divisor_text step.d
 
--- the power with the constants, then the lines, then the steps
+-- the power of a certificate, with the constants
+abbrev pub power_text : ℕ → List ℤ → List ℕ
+power_text power constants = codes "  proved power " ++ decimal power ++ constants_text constants ++ codes ".\n"
+
+-- the power, then the lines, then the steps
 abbrev pub cert_text : File → List Atom → List ℤ → Cert → List ℕ
 cert_text file atoms constants cert =
-    codes "  proved power " ++ decimal cert.power ++ constants_text constants ++ codes ".\n"
-    ++ flat_map (line_text file atoms) cert.lines ++ flat_map (step_text file atoms) cert.steps
+    power_text cert.power constants ++ flat_map (line_text file atoms) cert.lines
+    ++ flat_map (step_text file atoms) cert.steps
 
 -- the greatest monomial where the sides differ, and its coefficients
 abbrev pub no_text : File → List Atom → Pairs → ℤ → ℤ → List ℕ

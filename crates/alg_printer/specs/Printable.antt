@@ -21,6 +21,7 @@ use Rattle.alg_terms.specs.Members.{goal_at}
 use Rattle.alg_terms.specs.Sorts.{sort_beside}
 use Rattle.alg_terms.specs.TermRules.{IsTerm, HasNoQuotient, HasFieldQuotients}
 use Rattle.alg_printer.specs.Monomials.{goal_atoms, IsOver}
+use Rattle.alg_printer.specs.Terms.{IsNamed}
 use Rattle.alg_printer.specs.Text.{answer_at}
 
 -- the forms of answers that belong to a method
@@ -94,6 +95,17 @@ HasParts file goal (No at left right) =
     IsMonomialOver (goal_atoms file goal) at × IsInteger left × IsInteger right
 HasParts file goal (ZeroDenominator denominator) = IsAnswerTerm file goal denominator
 HasParts file goal _ = Unit {0}
+
+-- the names that the text of an answer needs: its terms are of the file, and its monomials over these atoms
+abbrev pub HasNamedTerms : File → Answer → Type 0
+HasNamedTerms file (Proved conditions) = All (IsNamed file) conditions
+HasNamedTerms file (ZeroDenominator denominator) = IsNamed file denominator
+HasNamedTerms file _ = Unit {0}
+
+abbrev pub HasMonomials : List Atom → Answer → Type 0
+HasMonomials atoms (Certified constants cert) = IsCertOver atoms cert
+HasMonomials atoms (No at left right) = IsOver atoms at
+HasMonomials atoms _ = Unit {0}
 
 -- an answer that can be printed below a goal
 pub record IsPrintable (file : File) (goal : Goal) (answer : Answer) : Type 0 where

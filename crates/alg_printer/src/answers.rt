@@ -3,9 +3,9 @@
 ghost use Rattle.std.specs.Prelude.{◌≡◌, ◌<◌, ◌++◌, ℕ, List, [], length, All, unwrap_or, OnOk};
 ghost use Rattle.std.specs.List.{flat_map};
 ghost use Rattle.alg_terms.specs.Members.{uses_of};
-ghost use Rattle.alg_printer.specs.Answers.{conditions_text, constants_text, multiple_text, line_text, step_text, cert_text, no_text, answer_text};
+ghost use Rattle.alg_printer.specs.Answers.{conditions_text, constants_text, multiple_text, divisor_text, line_text, step_text, power_text, cert_text, no_text, answer_text};
 ghost use Rattle.alg_printer.specs.Monomials.{goal_atoms, IsAtomOf, IsOver};
-ghost use Rattle.alg_printer.specs.Printable.{IsLineOver, IsStepOver, IsCertOver, IsPrintable};
+ghost use Rattle.alg_printer.specs.Printable.{IsLineOver, IsStepOver, IsCertOver, HasNamedTerms, HasMonomials};
 ghost use Rattle.alg_printer.specs.Terms.{IsNamed};
 
 use crate::NoMemory;
@@ -68,6 +68,15 @@ fn put_multiple(
     text.natural(line)
 }
 
+/// The divisor of a combination, at the end of its line.
+fn put_divisor(text: &mut Text, divisor: i128) -> Result<(), NoMemory>
+    ensures { OnOk result (text.new ≡ text.old ++ divisor_text divisor) }
+{
+    text.put(b" over ")?;
+    text.integer(divisor)?;
+    text.put(b".\n")
+}
+
 /// A line of a certificate.
 fn put_line(text: &mut Text, file: &File, atoms: &Option<Atoms>, line: &Line) -> Result<(), NoMemory>
     requires known { All (IsAtomOf file.now) (unwrap_or atoms.now []) }
@@ -78,9 +87,7 @@ fn put_line(text: &mut Text, file: &File, atoms: &Option<Atoms>, line: &Line) ->
     put_multiple(text, file, atoms, line.a, &line.m, line.i)?;
     text.put(b" minus ")?;
     put_multiple(text, file, atoms, line.b, &line.n, line.j)?;
-    text.put(b" over ")?;
-    text.integer(line.d)?;
-    text.put(b".\n")
+    put_divisor(text, line.d)
 }
 
 /// A step of a certificate.
@@ -98,9 +105,7 @@ fn put_step(
     text.integer(step.a)?;
     text.put(b" minus ")?;
     put_multiple(text, file, atoms, step.b, &step.n, step.j)?;
-    text.put(b" over ")?;
-    text.integer(step.d)?;
-    text.put(b".\n")
+    put_divisor(text, step.d)
 }
 
 /// The lines of a certificate.
@@ -139,6 +144,16 @@ fn put_steps(
     Ok(())
 }
 
+/// The power of a certificate, with the constants.
+fn put_power(text: &mut Text, power: u32, constants: &[i128]) -> Result<(), NoMemory>
+    ensures { OnOk result (text.new ≡ text.old ++ power_text power constants.now) }
+{
+    text.put(b"  proved power ")?;
+    text.natural(power)?;
+    put_constants(text, constants)?;
+    text.put(b".\n")
+}
+
 /// A certificate with its constants.
 fn put_cert(
     text: &mut Text,
@@ -152,10 +167,7 @@ fn put_cert(
     ensures { OnOk result (text.new
         ≡ text.old ++ cert_text file.now (unwrap_or atoms.now []) constants.now cert.now) }
 {
-    text.put(b"  proved power ")?;
-    text.natural(cert.power)?;
-    put_constants(text, constants)?;
-    text.put(b".\n")?;
+    put_power(text, cert.power, constants)?;
     put_lines(text, file, atoms, cert.lines.items())?;
     put_steps(text, file, atoms, cert.steps.items())
 }
@@ -181,4 +193,53 @@ fn put_no(
     text.put(b" and ")?;
     text.integer(right)?;
     text.put(b".\n")
+}
+
+/// An answer to a goal.
+pub(crate) fn put_answer(
+    alloc: Global,
+    text: &mut Text,
+    file: &File,
+    goal: &Goal,
+    answer: &Answer,
+) -> Result<(), NoMemory>
+    requires terms { HasNamedTerms file.now answer.now }
+    requires monomials { HasMonomials (goal_atoms file.now goal.now) answer.now }
+    requires atoms { All (IsAtomOf file.now) (goal_atoms file.now goal.now) }
+    requires hyps { All (λ u. u.hyp < length file.now.hyps) (uses_of goal.now.method) }
+    ensures { OnOk result (text.new ≡ text.old ++ answer_text file.now goal.now answer.now) }
+{
+    match answer {
+        Answer::Proved { conditions } => {
+            text.put(b"  proved")?;
+            put_conditions(text, file, conditions.items())?;
+            text.put(b".\n")
+        }
+        Answer::Certified { constants, cert } => {
+            let atoms = goal_table(alloc, file, goal)?;
+            put_cert(text, file, &atoms, constants.items(), cert)
+        }
+        Answer::No { at, left, right } => {
+            let atoms = goal_table(alloc, file, goal)?;
+            put_no(text, file, &atoms, at, *left, *right)
+        }
+        Answer::ZeroDenominator { denominator } => {
+            text.put(b"  zero denominator ")?;
+            put_term(text, file, denominator)?;
+            text.put(b".\n")
+        }
+        Answer::NoneUpTo { power } => {
+            text.put(b"  none up to power ")?;
+            text.natural(*power)?;
+            text.put(b".\n")
+        }
+        Answer::GaveUp { limit } => {
+            text.put(b"  gave up after ")?;
+            text.natural(*limit)?;
+            text.put(b".\n")
+        }
+        Answer::Atoms => text.put(b"  atoms.\n"),
+        Answer::Range => text.put(b"  range.\n"),
+        Answer::Degree => text.put(b"  degree.\n"),
+    }
 }

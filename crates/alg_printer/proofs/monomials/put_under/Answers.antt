@@ -1,8 +1,8 @@
 use Rattle.alg_printer.proofs.Paths.{under-is}
-use Rattle.alg_printer.proofs.Pieces.{grew_3}
+use Rattle.alg_printer.proofs.Pieces.{more, grew}
 use Rattle.alg_printer.proofs.monomials.put_under.Goals as goal
 
 pub returns : goal.returns
 returns c =
-    grew_3 c.put_closing.result _ _ _ _ _ _ _ _ (under-is c.args.file.now c.args.path.now c.args.name.now)
-    c.in_ok-put_opening.ensures c.in_ok-put.ensures c.put_closing.ensures
+    grew c.put_closing.result _ _ _ _ _ _ (under-is c.args.file.now c.args.path.now c.args.name.now)
+    (more _ _ _ _ _ c.in_ok-put_opening.ensures c.in_ok-put.ensures) c.put_closing.ensures

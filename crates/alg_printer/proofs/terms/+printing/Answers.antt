@@ -3,7 +3,7 @@ use mir.Syntax.{w128}
 use Rattle.alg_terms.specs.declared.term.Term.TheViews.{the_lemmas}
 use Rattle.alg_printer.specs.Terms.{hom_name, term_text}
 use Rattle.alg_printer.proofs.Named.{named-Var, named-Neg, named-Pow, named-Hom, named-Hom-part, named-Add-left, named-Add-right, named-Sub-left, named-Sub-right, named-Mul-left, named-Mul-right, named-Div-left, named-Div-right}
-use Rattle.alg_printer.proofs.Pieces.{on_ok, in_front, grew_2, grew_3, grew_4}
+use Rattle.alg_printer.proofs.Pieces.{on_ok, in_front, more, grew}
 use Rattle.alg_printer.proofs.TermTexts.{text-Var, text-Int, text-Neg, text-Pow, text-Hom, text-Add, text-Sub, text-Mul, text-Div}
 use Rattle.alg_printer.proofs.terms.+printing.Goals as goal
 
@@ -71,40 +71,41 @@ put_term-returns-in-Int t c =
 
 pub put_term-returns-in_ok-put-in-Neg : goal.put_term-returns-in_ok-put-in-Neg
 put_term-returns-in_ok-put-in-Neg t c =
-    grew_2 c.put_part.result _ _ _ _ _ _ (text-Neg c.args.file.now _ _ _ c.in-Neg.is c.get.ensures)
+    grew c.put_part.result _ _ _ _ _ _ (text-Neg c.args.file.now _ _ _ c.in-Neg.is c.get.ensures)
     c.in_ok-put-in-Neg.ensures c.put_part.ensures
 
 pub put_term-returns-in_ok-put-in-Pow : goal.put_term-returns-in_ok-put-in-Pow
 put_term-returns-in_ok-put-in-Pow t c =
-    grew_3 c.natural.result _ _ _ _ _ _ _ _ (text-Pow c.args.file.now _ _ _ _ c.in-Pow.is c.get-in-Pow.ensures)
-    c.in_ok-put_part-in-Pow.ensures c.in_ok-put-in-Pow.ensures c.natural.ensures
+    grew c.natural.result _ _ _ _ _ _ (text-Pow c.args.file.now _ _ _ _ c.in-Pow.is c.get-in-Pow.ensures)
+    (more _ _ _ _ _ c.in_ok-put_part-in-Pow.ensures c.in_ok-put-in-Pow.ensures) c.natural.ensures
 
 pub put_term-returns-in_ok-put_term-in-Hom : goal.put_term-returns-in_ok-put_term-in-Hom
 put_term-returns-in_ok-put_term-in-Hom t c =
-    grew_4 c.put-in-Hom-2.result _ _ _ _ _ _ _ _ _ _
+    grew c.put-in-Hom-2.result _ _ _ _ _ _
     (text-Hom c.args.file.now _ _ _ _ c.in-Hom.is c.get-in-Hom.ensures ∙ in_front (hom_name c.args.file.now c.in-Hom.number) (codes "(") (term_text c.args.file.now c.get-in-Hom.result.now) (codes ")"))
-    c.in_ok-put_morphism-in-Hom.ensures c.in_ok-put-in-Hom.ensures c.in_ok-put_term-in-Hom.ensures c.put-in-Hom-2.ensures
+    (more _ _ _ _ _ (more _ _ _ _ _ c.in_ok-put_morphism-in-Hom.ensures c.in_ok-put-in-Hom.ensures) c.in_ok-put_term-in-Hom.ensures)
+    c.put-in-Hom-2.ensures
 
 pub put_term-returns-in_ok-put-in-Add : goal.put_term-returns-in_ok-put-in-Add
 put_term-returns-in_ok-put-in-Add t c =
-    grew_3 c.put_part-in-Add-2.result _ _ _ _ _ _ _ _
+    grew c.put_part-in-Add-2.result _ _ _ _ _ _
     (text-Add c.args.file.now _ _ _ _ _ c.in-Add.is c.get-in-Add.ensures c.get-in-Add-2.ensures)
-    c.in_ok-put_part-in-Add.ensures c.in_ok-put-in-Add.ensures c.put_part-in-Add-2.ensures
+    (more _ _ _ _ _ c.in_ok-put_part-in-Add.ensures c.in_ok-put-in-Add.ensures) c.put_part-in-Add-2.ensures
 
 pub put_term-returns-in_ok-put-in-Sub : goal.put_term-returns-in_ok-put-in-Sub
 put_term-returns-in_ok-put-in-Sub t c =
-    grew_3 c.put_part-in-Sub-2.result _ _ _ _ _ _ _ _
+    grew c.put_part-in-Sub-2.result _ _ _ _ _ _
     (text-Sub c.args.file.now _ _ _ _ _ c.in-Sub.is c.get-in-Sub.ensures c.get-in-Sub-2.ensures)
-    c.in_ok-put_part-in-Sub.ensures c.in_ok-put-in-Sub.ensures c.put_part-in-Sub-2.ensures
+    (more _ _ _ _ _ c.in_ok-put_part-in-Sub.ensures c.in_ok-put-in-Sub.ensures) c.put_part-in-Sub-2.ensures
 
 pub put_term-returns-in_ok-put-in-Mul : goal.put_term-returns-in_ok-put-in-Mul
 put_term-returns-in_ok-put-in-Mul t c =
-    grew_3 c.put_part-in-Mul-2.result _ _ _ _ _ _ _ _
+    grew c.put_part-in-Mul-2.result _ _ _ _ _ _
     (text-Mul c.args.file.now _ _ _ _ _ c.in-Mul.is c.get-in-Mul.ensures c.get-in-Mul-2.ensures)
-    c.in_ok-put_part-in-Mul.ensures c.in_ok-put-in-Mul.ensures c.put_part-in-Mul-2.ensures
+    (more _ _ _ _ _ c.in_ok-put_part-in-Mul.ensures c.in_ok-put-in-Mul.ensures) c.put_part-in-Mul-2.ensures
 
 pub put_term-returns-in_ok-put-in-Div : goal.put_term-returns-in_ok-put-in-Div
 put_term-returns-in_ok-put-in-Div t c =
-    grew_3 c.put_part-in-Div-2.result _ _ _ _ _ _ _ _
+    grew c.put_part-in-Div-2.result _ _ _ _ _ _
     (text-Div c.args.file.now _ _ _ _ _ c.in-Div.is c.get-in-Div.ensures c.get-in-Div-2.ensures)
-    c.in_ok-put_part-in-Div.ensures c.in_ok-put-in-Div.ensures c.put_part-in-Div-2.ensures
+    (more _ _ _ _ _ c.in_ok-put_part-in-Div.ensures c.in_ok-put-in-Div.ensures) c.put_part-in-Div-2.ensures
