@@ -13,14 +13,17 @@ use Rattle.alg_printer.specs.Statements.{sort_text, hom_text, vars_text, hyp_tex
 abbrev pub answer_at : List (Option Answer) → ℕ → Option Answer
 answer_at answers i = slice_index_or answers i None
 
--- a statement, a goal with its answer below it
+-- goal number i with its answer below it
+abbrev pub answered_text : File → List (Option Answer) → ℕ → List ℕ
+answered_text file answers i = goal_text file (goal_at file i) ++ optional_text file (goal_at file i) (answer_at answers i)
+
+-- a statement
 abbrev pub statement_text : File → List (Option Answer) → Statement → List ℕ
 statement_text file answers (statement.Sort s) = sort_text (sort_at file s)
 statement_text file answers (statement.Hom f) = hom_text file (hom_at file f)
 statement_text file answers (statement.Vars first count) = vars_text file first count
 statement_text file answers (statement.Hyp h) = hyp_text file (hyp_at file h)
-statement_text file answers (statement.Goal i) =
-    goal_text file (goal_at file i) ++ optional_text file (goal_at file i) (answer_at answers i)
+statement_text file answers (statement.Goal i) = answered_text file answers i
 
 -- the statements of the file in their order
 abbrev pub text_of : File → List (Option Answer) → List ℕ

@@ -1,6 +1,6 @@
 //! The text of an answer.
 
-ghost use Rattle.std.specs.Prelude.{◌≡◌, ◌<◌, ◌++◌, ℕ, List, [], length, All, unwrap_or, OnOk};
+ghost use Rattle.std.specs.Prelude.{◌≡◌, ◌<◌, ◌++◌, ℕ, List, [], length, All, codes, decimal, unwrap_or, OnOk};
 ghost use Rattle.std.specs.List.{flat_map};
 ghost use Rattle.alg_terms.specs.Members.{uses_of};
 ghost use Rattle.alg_printer.specs.Answers.{conditions_text, constants_text, multiple_text, divisor_text, line_text, step_text, power_text, cert_text, no_text, answer_text};
@@ -195,6 +195,15 @@ fn put_no(
     text.put(b".\n")
 }
 
+/// A line that ends with a number.
+fn put_count(text: &mut Text, words: &[u8], count: u32) -> Result<(), NoMemory>
+    ensures { OnOk result (text.new ≡ text.old ++ (words.now ++ decimal count ++ codes ".\n")) }
+{
+    text.put(words)?;
+    text.natural(count)?;
+    text.put(b".\n")
+}
+
 /// An answer to a goal.
 pub(crate) fn put_answer(
     alloc: Global,
@@ -228,16 +237,8 @@ pub(crate) fn put_answer(
             put_term(text, file, denominator)?;
             text.put(b".\n")
         }
-        Answer::NoneUpTo { power } => {
-            text.put(b"  none up to power ")?;
-            text.natural(*power)?;
-            text.put(b".\n")
-        }
-        Answer::GaveUp { limit } => {
-            text.put(b"  gave up after ")?;
-            text.natural(*limit)?;
-            text.put(b".\n")
-        }
+        Answer::NoneUpTo { power } => put_count(text, b"  none up to power ", *power),
+        Answer::GaveUp { limit } => put_count(text, b"  gave up after ", *limit),
         Answer::Atoms => text.put(b"  atoms.\n"),
         Answer::Range => text.put(b"  range.\n"),
         Answer::Degree => text.put(b"  degree.\n"),

@@ -6,6 +6,7 @@
 #![tactic(auto)]
 
 mod answers;
+mod file;
 
 mod monomials;
 mod statements;
@@ -13,4 +14,5 @@ mod terms;
 mod text;
 
 pub use alg_terms::NoMemory;
+pub use file::file_text;
 
