@@ -1,24 +1,21 @@
--- The atoms of a goal's table are of the file.
-use Rattle.std.proofs.Common.{◌≡◌, ◌<◌, ◌≤◌, ◌+◌, ℕ, Bool, true, false, List, [], ◌∷◌, ◌++◌, filter, flat_map, length, nat_le, get_or, refl, sym, subst, ap, if◌then◌else◌}
+-- The atoms of a term of the file are of the file.
+use Rattle.std.proofs.Common.{◌<◌, ℕ, List, [], ◌∷◌, ◌++◌, length, refl, sym, subst}
 use Rattle.std.specs.Prelude.{All}
-use Rattle.std.proofs.lemmas.List.Elements.{All-nil, All-cons, All-head, All-tail, All-append, All-push, All-filter, All-get_or, All-same}
+use Rattle.std.proofs.lemmas.List.Elements.{All-nil, All-cons, All-append, All-push}
 use Rattle.alg_terms.specs.declared.file.File.{File}
 use Rattle.alg_terms.specs.declared.goals.Equation.{Equation}
-use Rattle.alg_terms.specs.declared.goals.Goal.{Goal}
-use Rattle.alg_terms.specs.declared.goals.Use.{Use}
 use Rattle.alg_terms.specs.declared.term.Atom.{Atom}
 use Rattle.alg_terms.specs.declared.term.Term.{Term, map-Term, roll-Term}
 use Rattle.alg_terms.specs.declared.term.Term.TheFolds.{ind-Term, fold-roll-Term}
 use Rattle.alg_terms.specs.declared.term.Term.TheOpen.{Term-F}
 use Rattle.alg_terms.specs.declared.term.Term.TheVariants.{rolls-Var, rolls-Neg, rolls-Add, rolls-Sub, rolls-Mul, rolls-Div, rolls-Pow, rolls-Hom}
-use Rattle.alg_terms.specs.Members.{hyp_at, no_hyp, uses_of}
-use Rattle.alg_reify.specs.Table.{atom_eq, leaves, node_leaves, each_once, equation_leaves, use_leaves, table, MAX_ATOMS}
-use Rattle.alg_printer.specs.Monomials.{goal_atoms, IsPathOf, IsAtomOf}
+use Rattle.alg_reify.specs.Table.{leaves, node_leaves, equation_leaves}
+use Rattle.alg_printer.specs.Monomials.{IsPathOf, IsAtomOf}
 use Rattle.alg_printer.specs.Terms.{IsNamed}
 use Rattle.alg_printer.proofs.Named.{named-Var, named-Neg, named-Pow, named-Hom, named-Hom-part, named-Add-left, named-Add-right, named-Sub-left, named-Sub-right, named-Mul-left, named-Mul-right, named-Div-left, named-Div-right}
 
 -- all of these atoms are of the file
-abbrev AreAtoms : File → List Atom → Type 0
+abbrev pub AreAtoms : File → List Atom → Type 0
 AreAtoms file atoms = All (IsAtomOf file) atoms
 
 -- the atoms of a term of the file are of the file, under any path of the file
@@ -76,14 +73,9 @@ has_atoms file =
 abbrev pub AreNamed : File → Equation → Type 0
 AreNamed file e = IsNamed file e.left × IsNamed file e.right
 
-equation_has : (file : File) (path : List ℕ) (e : Equation) → IsPathOf file path → AreNamed file e →
+-- so are the atoms of an equation
+pub equation_has : (file : File) (path : List ℕ) (e : Equation) → IsPathOf file path → AreNamed file e →
     AreAtoms file (equation_leaves path e)
 equation_has file path e of named =
     All-append (IsAtomOf file) (leaves path e.left) (leaves path e.right) (has_atoms file e.left path of named.0)
     (has_atoms file e.right path of named.1)
-
-once_has : (file : File) (atoms : List Atom) → AreAtoms file atoms → AreAtoms file (each_once atoms)
-once_has file [] all = all
-once_has file (a ∷ atoms) all =
-    All-cons (IsAtomOf file) a _ (All-head (IsAtomOf file) a atoms all)
-    (All-filter _ (IsAtomOf file) (each_once atoms) (once_has file atoms (All-tail (IsAtomOf file) a atoms all)))
