@@ -8,7 +8,7 @@ use Rattle.alg_terms.specs.declared.file.Statement.{Statement}
 use Rattle.alg_terms.specs.declared.file.Statement.TheVariants as statement
 use Rattle.alg_terms.specs.Order.{Members, numbers_from, declared_by, declared_by_all, members_of, IsOneSorted}
 use Rattle.alg_terms.specs.Valid.{IsValid}
-use Rattle.alg_printer.specs.Printable.{IsStatementOf}
+use Rattle.alg_printer.specs.Text.{IsStatementOf}
 
 -- each number is below the end
 abbrev Below : ℕ → List ℕ → Type 0

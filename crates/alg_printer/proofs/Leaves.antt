@@ -10,7 +10,8 @@ use Rattle.alg_terms.specs.declared.term.Term.TheFolds.{ind-Term, fold-roll-Term
 use Rattle.alg_terms.specs.declared.term.Term.TheOpen.{Term-F}
 use Rattle.alg_terms.specs.declared.term.Term.TheVariants.{rolls-Var, rolls-Neg, rolls-Add, rolls-Sub, rolls-Mul, rolls-Div, rolls-Pow, rolls-Hom}
 use Rattle.alg_reify.specs.Table.{leaves, node_leaves, equation_leaves}
-use Rattle.alg_printer.specs.Monomials.{IsPathOf, IsAtomOf}
+use Rattle.alg_printer.specs.Monomials.{IsAtomOf}
+use Rattle.alg_printer.specs.Names.{IsPathOf}
 use Rattle.alg_printer.specs.Terms.{IsNamed}
 use Rattle.alg_printer.proofs.Named.{named-Var, named-Neg, named-Pow, named-Hom, named-Hom-part, named-Add-left, named-Add-right, named-Sub-left, named-Sub-right, named-Mul-left, named-Mul-right, named-Div-left, named-Div-right}
 

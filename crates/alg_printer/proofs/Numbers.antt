@@ -3,7 +3,7 @@ use Rattle.std.proofs.Common.{◌≡◌, ◌<◌, ◌+◌, ◌-◌, ℕ, List, �
 use Rattle.alg_terms.specs.declared.file.File.{File}
 use Rattle.alg_terms.specs.Order.{numbers_from}
 use Rattle.alg_printer.specs.Statements.{names_text}
-use Rattle.alg_printer.specs.Terms.{var_name}
+use Rattle.alg_printer.specs.Names.{var_name}
 
 -- the first number and the others
 numbers-from : (a b n m : ℕ) → n ≡ suc m → b ≡ suc a → numbers_from a n ≡ a ∷ numbers_from b m

@@ -1,8 +1,8 @@
 -- A name under a path stands between what is before it and what is after it.
 use Rattle.std.proofs.Common.{◌≡◌, ℕ, List, [], ◌∷◌, ◌++◌, codes, append_assoc, append-nil, sym, ◌∙◌, ap, refl}
 use Rattle.alg_terms.specs.declared.file.File.{File}
-use Rattle.alg_printer.specs.Monomials.{under, opening, closing}
-use Rattle.alg_printer.specs.Terms.{hom_name, in_parentheses}
+use Rattle.alg_printer.specs.Names.{under, opening, closing}
+use Rattle.alg_printer.specs.Names.{hom_name, in_parentheses}
 
 -- one more parenthesis may stand at either end
 closing_comm : (path : List ℕ) → closing path ++ codes ")" ≡ codes ")" ++ closing path

@@ -14,7 +14,7 @@ use Rattle.alg_terms.specs.Members.{hyp_at, no_hyp, goal_at, no_goal, uses_of}
 use Rattle.alg_terms.specs.Valid.{IsValid}
 use Rattle.alg_reify.specs.Table.{atom_eq, each_once, equation_leaves, use_leaves, table, MAX_ATOMS}
 use Rattle.alg_reify.proofs.Uses.{use_leaves-at}
-use Rattle.alg_printer.specs.Monomials.{goal_atoms, IsPathOf, IsAtomOf}
+use Rattle.alg_printer.specs.Monomials.{goal_atoms, IsAtomOf}
 use Rattle.alg_printer.proofs.Leaves.{AreAtoms, AreNamed, equation_has}
 
 named : (file : File) (e : Equation) → IsEquation file e → AreNamed file e

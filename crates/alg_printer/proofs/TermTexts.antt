@@ -5,7 +5,8 @@ use Rattle.alg_terms.specs.declared.file.File.{File}
 use Rattle.alg_terms.specs.declared.term.Term.{Term}
 use Rattle.alg_terms.specs.declared.term.Term.TheVariants.{Var, Int, Neg, Add, Sub, Mul, Div, Pow, Hom}
 use Rattle.alg_terms.proofs.Built.{fold_term-Var, fold_term-Int, fold_term-Neg, fold_term-Add, fold_term-Sub, fold_term-Mul, fold_term-Div, fold_term-Pow, fold_term-Hom}
-use Rattle.alg_printer.specs.Terms.{hom_name, var_name, in_parentheses, part_text, printed, term_text, node_printed}
+use Rattle.alg_printer.specs.Names.{hom_name, var_name, in_parentheses}
+use Rattle.alg_printer.specs.Terms.{part_text, printed, term_text, node_printed}
 
 -- of each node
 pub text-Var : (file : File) (t : Term) (k : ℕ) → t ≡ Var k → term_text file t ≡ var_name file k

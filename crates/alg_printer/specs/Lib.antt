@@ -1,5 +1,6 @@
 pub mod Answers
 pub mod Monomials
+pub mod Names
 pub mod Printable
 pub mod Statements
 pub mod Terms

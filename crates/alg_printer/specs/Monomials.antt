@@ -1,29 +1,12 @@
 -- The text of a monomial over a goal's atoms.
-use Rattle.std.specs.Prelude.{◌<◌, ℕ, List, [], ◌∷◌, ◌++◌, codes, decimal, flat_map, length, All, nat_lt, nat_le, if◌then◌else◌, slice_index_or}
+use Rattle.std.specs.Prelude.{◌<◌, ℕ, List, [], ◌∷◌, ◌++◌, codes, decimal, length, All, nat_lt, nat_le, if◌then◌else◌, slice_index_or}
 use Rattle.alg_mono.specs.Mono.{Pairs}
 use Rattle.alg_terms.specs.declared.file.File.{File}
 use Rattle.alg_terms.specs.declared.goals.Goal.{Goal}
 use Rattle.alg_terms.specs.declared.term.Atom.{Atom}
 use Rattle.alg_terms.specs.Members.{uses_of}
 use Rattle.alg_reify.specs.Table.{table, MAX_ATOMS}
-use Rattle.alg_printer.specs.Terms.{hom_name, var_name, in_parentheses}
-
--- the texts of several things, with one text before the first and another before each later one
-abbrev pub listed : {X : Type 0} → List ℕ → List ℕ → (X → List ℕ) → List X → List ℕ
-listed first later text [] = []
-listed first later text (x ∷ xs) = first ++ text x ++ listed later later text xs
-
--- a name under a path of morphisms, the outermost first
-abbrev pub under : File → List ℕ → List ℕ → List ℕ
-under file [] name = name
-under file (f ∷ path) name = hom_name file f ++ in_parentheses (under file path name)
-
--- what stands before the name, and what stands after it
-abbrev pub opening : File → List ℕ → List ℕ
-opening file path = flat_map (λ f. hom_name file f ++ codes "(") path
-
-abbrev pub closing : List ℕ → List ℕ
-closing path = flat_map (λ f. codes ")") path
+use Rattle.alg_printer.specs.Names.{var_name, under, listed, IsPathOf}
 
 -- an atom: its path over its variable
 abbrev pub atom_text : File → Atom → List ℕ
@@ -57,10 +40,6 @@ factors_text file atoms m = listed [] (codes "*") (factor_text file atoms) m
 abbrev pub mono_text : File → List Atom → Pairs → List ℕ
 mono_text file atoms [] = codes "1"
 mono_text file atoms (e ∷ m) = factors_text file atoms (e ∷ m)
-
--- the morphisms of a path are of the file
-abbrev pub IsPathOf : File → List ℕ → Type 0
-IsPathOf file path = All (λ f. f < length file.homs) path
 
 -- the variable and the morphisms of an atom are of the file
 abbrev pub IsAtomOf : File → Atom → Type 0

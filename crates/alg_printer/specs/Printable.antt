@@ -1,5 +1,5 @@
 -- When answers can be printed.
-use Rattle.std.specs.Prelude.{◌≡◌, ◌<◌, ◌≤◌, ◌+◌, ◌^◌, ℕ, ℤ, pos, ◌≤ℤ◌, List, length, All, Option, IfSome, unsigned_abs}
+use Rattle.std.specs.Prelude.{◌≡◌, ◌<◌, ◌^◌, ℕ, ℤ, pos, ◌≤ℤ◌, List, length, All, Option, IfSome, unsigned_abs}
 use Rattle.std.specs.Ordering.{nat_cmp}
 use Rattle.alg_lines.specs.declared.answer.Answer.{Answer}
 use Rattle.alg_lines.specs.declared.answer.Answer.TheVariants.{Proved, Certified, No, ZeroDenominator, NoneUpTo, GaveUp, Atoms, Range, Degree}
@@ -9,8 +9,6 @@ use Rattle.alg_lines.specs.declared.cert.Line.{Line}
 use Rattle.alg_mono.specs.Mono.{Pairs}
 use Rattle.alg_mono.specs.Monomials.{IsMono}
 use Rattle.alg_terms.specs.declared.file.File.{File}
-use Rattle.alg_terms.specs.declared.file.Statement.{Statement}
-use Rattle.alg_terms.specs.declared.file.Statement.TheVariants as statement
 use Rattle.alg_terms.specs.declared.goals.Goal.{Goal}
 use Rattle.alg_terms.specs.declared.goals.Method.{Method}
 use Rattle.alg_terms.specs.declared.goals.Method.TheVariants.{ByRing, ByField, ByNsatz}
@@ -21,7 +19,6 @@ use Rattle.alg_terms.specs.Members.{goal_at}
 use Rattle.alg_terms.specs.Sorts.{sort_beside}
 use Rattle.alg_terms.specs.TermRules.{IsTerm, HasNoQuotient, HasFieldQuotients}
 use Rattle.alg_printer.specs.Monomials.{goal_atoms, IsOver}
-use Rattle.alg_printer.specs.Terms.{IsNamed}
 use Rattle.alg_printer.specs.Text.{answer_at}
 
 -- the forms of answers that belong to a method
@@ -96,17 +93,6 @@ HasParts file goal (No at left right) =
 HasParts file goal (ZeroDenominator denominator) = IsAnswerTerm file goal denominator
 HasParts file goal _ = Unit {0}
 
--- the names that the text of an answer needs: its terms are of the file, and its monomials over these atoms
-abbrev pub HasNamedTerms : File → Answer → Type 0
-HasNamedTerms file (Proved conditions) = All (IsNamed file) conditions
-HasNamedTerms file (ZeroDenominator denominator) = IsNamed file denominator
-HasNamedTerms file _ = Unit {0}
-
-abbrev pub HasMonomials : List Atom → Answer → Type 0
-HasMonomials atoms (Certified constants cert) = IsCertOver atoms cert
-HasMonomials atoms (No at left right) = IsOver atoms at
-HasMonomials atoms _ = Unit {0}
-
 -- an answer that can be printed below a goal
 pub record IsPrintable (file : File) (goal : Goal) (answer : Answer) : Type 0 where
   pub form : HasForm goal.method answer
@@ -116,11 +102,3 @@ pub record IsPrintable (file : File) (goal : Goal) (answer : Answer) : Type 0 wh
 pub record ArePrintable (file : File) (answers : List (Option Answer)) : Type 0 where
   pub count : length answers ≡ length file.goals
   pub each : (i : ℕ) → i < length file.goals → IfSome (answer_at answers i) (IsPrintable file (goal_at file i))
-
--- what a statement declares is of the file
-abbrev pub IsStatementOf : File → Statement → Type 0
-IsStatementOf file (statement.Sort s) = s < length file.sorts
-IsStatementOf file (statement.Hom f) = f < length file.homs
-IsStatementOf file (statement.Vars first count) = (1 ≤ count) × (first + count ≤ length file.vars)
-IsStatementOf file (statement.Hyp h) = h < length file.hyps
-IsStatementOf file (statement.Goal i) = i < length file.goals

@@ -11,14 +11,10 @@ use Rattle.alg_terms.specs.declared.goals.Hyp.{Hyp}
 use Rattle.alg_terms.specs.declared.goals.Method.{Method}
 use Rattle.alg_terms.specs.declared.goals.Method.TheVariants.{ByRing, ByField, ByNsatz}
 use Rattle.alg_terms.specs.declared.goals.Use.{Use}
-use Rattle.alg_terms.specs.Members.{sort_at, sort_of_var, hyp_at}
+use Rattle.alg_terms.specs.Members.{sort_of_var, hyp_at}
 use Rattle.alg_terms.specs.Order.{numbers_from}
-use Rattle.alg_printer.specs.Monomials.{listed, under}
-use Rattle.alg_printer.specs.Terms.{var_name, term_text}
-
--- the name of sort number s
-abbrev pub sort_name : File → ℕ → List ℕ
-sort_name file s = (sort_at file s).name
+use Rattle.alg_printer.specs.Names.{sort_name, var_name, under, listed}
+use Rattle.alg_printer.specs.Terms.{term_text}
 
 abbrev pub kind_text : Kind → List ℕ
 kind_text Ring = codes "ring "

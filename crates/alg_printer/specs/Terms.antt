@@ -1,23 +1,12 @@
 -- The text of a term.
-use Rattle.std.specs.Prelude.{ℕ, List, [], ◌++◌, codes, decimal, nat_lt, if◌then◌else◌}
+use Rattle.std.specs.Prelude.{ℕ, List, ◌++◌, codes, decimal, nat_lt, if◌then◌else◌}
 use Rattle.std.specs.Fmt.{signed_decimal}
 use Rattle.alg_terms.specs.declared.file.File.{File}
 use Rattle.alg_terms.specs.declared.term.Term.{Term}
 use Rattle.alg_terms.specs.declared.term.Term.TheOpen.{Term-F}
-use Rattle.alg_terms.specs.Members.{var_at, hom_at}
 use Rattle.alg_terms.specs.Nodes.{fold_term, EachNode}
 use Rattle.alg_terms.specs.TermRules.{IsInRange}
-
--- the names of variable number k and of morphism number f
-abbrev pub var_name : File → ℕ → List ℕ
-var_name file k = (var_at file k).name
-
-abbrev pub hom_name : File → ℕ → List ℕ
-hom_name file f = (hom_at file f).name
-
--- a text in parentheses
-abbrev pub in_parentheses : List ℕ → List ℕ
-in_parentheses text = codes "(" ++ text ++ codes ")"
+use Rattle.alg_printer.specs.Names.{var_name, hom_name, in_parentheses}
 
 -- a term in print: its text, and how tightly it binds
 pub record Printed : Type 0 where

@@ -1,5 +1,5 @@
 -- The canonical text of a file with its answers.
-use Rattle.std.specs.Prelude.{ℕ, List, ◌++◌, Option, None, slice_index_or}
+use Rattle.std.specs.Prelude.{ℕ, ◌<◌, ◌≤◌, ◌+◌, List, length, ◌++◌, Option, None, slice_index_or}
 use Rattle.std.specs.List.{flat_map}
 use Rattle.alg_lines.specs.declared.answer.Answer.{Answer}
 use Rattle.alg_terms.specs.declared.file.File.{File}
@@ -28,3 +28,11 @@ statement_text file answers (statement.Goal i) = answered_text file answers i
 -- the statements of the file in their order
 abbrev pub text_of : File → List (Option Answer) → List ℕ
 text_of file answers = flat_map (statement_text file answers) file.order
+
+-- what a statement declares is of the file
+abbrev pub IsStatementOf : File → Statement → Type 0
+IsStatementOf file (statement.Sort s) = s < length file.sorts
+IsStatementOf file (statement.Hom f) = f < length file.homs
+IsStatementOf file (statement.Vars first count) = (1 ≤ count) × (first + count ≤ length file.vars)
+IsStatementOf file (statement.Hyp h) = h < length file.hyps
+IsStatementOf file (statement.Goal i) = i < length file.goals

@@ -5,7 +5,7 @@ ghost use Rattle.std.specs.List.{flat_map};
 ghost use Rattle.alg_terms.specs.Members.{uses_of};
 ghost use Rattle.alg_printer.specs.Answers.{conditions_text, constants_text, multiple_text, divisor_text, line_text, step_text, power_text, cert_text, no_text, answer_text};
 ghost use Rattle.alg_printer.specs.Monomials.{goal_atoms, IsAtomOf, IsOver};
-ghost use Rattle.alg_printer.specs.Printable.{IsLineOver, IsStepOver, IsCertOver, HasNamedTerms, HasMonomials};
+ghost use Rattle.alg_printer.specs.Printable.{IsLineOver, IsStepOver, IsCertOver, HasParts};
 ghost use Rattle.alg_printer.specs.Terms.{IsNamed};
 
 use crate::NoMemory;
@@ -212,8 +212,7 @@ pub(crate) fn put_answer(
     goal: &Goal,
     answer: &Answer,
 ) -> Result<(), NoMemory>
-    requires terms { HasNamedTerms file.now answer.now }
-    requires monomials { HasMonomials (goal_atoms file.now goal.now) answer.now }
+    requires parts { HasParts file.now goal.now answer.now }
     requires atoms { All (IsAtomOf file.now) (goal_atoms file.now goal.now) }
     requires hyps { All (λ u. u.hyp < length file.now.hyps) (uses_of goal.now.method) }
     ensures { OnOk result (text.new ≡ text.old ++ answer_text file.now goal.now answer.now) }

@@ -2,8 +2,8 @@
 
 ghost use Rattle.std.specs.Prelude.{◌≡◌, ◌<◌, ◌++◌, List, length, IfOk, OnOk};
 ghost use Rattle.alg_terms.specs.Valid.{IsValid};
-ghost use Rattle.alg_printer.specs.Printable.{ArePrintable, IsStatementOf};
-ghost use Rattle.alg_printer.specs.Text.{answered_text, statement_text, text_of};
+ghost use Rattle.alg_printer.specs.Printable.{ArePrintable};
+ghost use Rattle.alg_printer.specs.Text.{IsStatementOf, answered_text, statement_text, text_of};
 
 use crate::NoMemory;
 use crate::answers::put_answer;

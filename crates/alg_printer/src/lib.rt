@@ -7,12 +7,11 @@
 
 mod answers;
 mod file;
-
 mod monomials;
+mod names;
 mod statements;
 mod terms;
 mod text;
 
 pub use alg_terms::NoMemory;
 pub use file::file_text;
-

@@ -2,52 +2,15 @@
 
 ghost use Rattle.std.specs.Prelude.{◌≡◌, ◌<◌, ◌≤◌, ◌++◌, ℕ, List, [], length, All, unwrap_or, IfOk, OnOk};
 ghost use Rattle.alg_terms.specs.Members.{uses_of};
-ghost use Rattle.alg_printer.specs.Monomials.{under, opening, closing, atom_text, goal_atoms, exponent_text, factors_text, mono_text, atom_at, IsPathOf, IsAtomOf, IsOver};
+ghost use Rattle.alg_printer.specs.Monomials.{atom_text, goal_atoms, exponent_text, factors_text, mono_text, atom_at, IsAtomOf, IsOver};
 
 use crate::NoMemory;
-use crate::terms::{put_morphism, put_variable};
+use crate::names::put_under;
 use crate::text::Text;
 use alg_mono::Mono;
 use alg_reify::{Atoms, AtomsEnd, atoms_of};
 use alg_terms::{Atom, File, Goal, Method, Use};
 use std::alloc::{AllocError, Global};
-
-/// A name under a path of morphisms, the outermost first.
-pub(crate) fn put_under(
-    text: &mut Text,
-    file: &File,
-    path: &[u32],
-    name: &[u8],
-) -> Result<(), NoMemory>
-    requires { IsPathOf file.now path.now }
-    ensures { OnOk result (text.new ≡ text.old ++ under file.now path.now name.now) }
-{
-    put_opening(text, file, path)?;
-    text.put(name)?;
-    put_closing(text, path)
-}
-
-/// What stands before a name under a path.
-fn put_opening(text: &mut Text, file: &File, path: &[u32]) -> Result<(), NoMemory>
-    requires { IsPathOf file.now path.now }
-    ensures { OnOk result (text.new ≡ text.old ++ opening file.now path.now) }
-{
-    for morphism in path {
-        put_morphism(text, file, *morphism)?;
-        text.put(b"(")?;
-    }
-    Ok(())
-}
-
-/// What stands after it.
-fn put_closing(text: &mut Text, path: &[u32]) -> Result<(), NoMemory>
-    ensures { OnOk result (text.new ≡ text.old ++ closing path.now) }
-{
-    for _ in path {
-        text.put(b")")?;
-    }
-    Ok(())
-}
 
 /// The uses of a method.
 pub(crate) fn uses_of(method: &Method) -> &[Use]

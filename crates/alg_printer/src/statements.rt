@@ -3,24 +3,15 @@
 ghost use Rattle.std.specs.Prelude.{◌≡◌, ◌<◌, ◌≤◌, ◌++◌, ◌+◌, ◌^◌, ℕ, List, length, All, OnOk};
 ghost use Rattle.alg_terms.specs.Members.{sort_of_var, uses_of};
 ghost use Rattle.alg_terms.specs.Order.{numbers_from};
-ghost use Rattle.alg_printer.specs.Monomials.{IsPathOf};
-ghost use Rattle.alg_printer.specs.Statements.{sort_name, kind_text, char_text, sort_text, hom_text, names_text, vars_text, relation_text, hyp_text, use_text, uses_text, method_text, goal_text};
+ghost use Rattle.alg_printer.specs.Names.{IsPathOf};
+ghost use Rattle.alg_printer.specs.Statements.{kind_text, char_text, sort_text, hom_text, names_text, vars_text, relation_text, hyp_text, use_text, uses_text, method_text, goal_text};
 ghost use Rattle.alg_printer.specs.Terms.{IsNamed};
 
 use crate::NoMemory;
-use crate::monomials::put_under;
-use crate::terms::{put_term, put_variable};
+use crate::names::{put_sort_name, put_under, put_variable};
+use crate::terms::put_term;
 use crate::text::Text;
 use alg_terms::{File, Goal, HomDecl, Hyp, Kind, Method, Sort, Use};
-
-/// The name of a sort.
-fn put_sort_name(text: &mut Text, file: &File, number: u32) -> Result<(), NoMemory>
-    requires { number < length file.now.sorts }
-    ensures { OnOk result (text.new ≡ text.old ++ sort_name file.now number) }
-{
-    let declared = &file.sorts.items()[number as usize];
-    text.put(declared.name.text().as_bytes())
-}
 
 /// The word of a kind with the space after it.
 fn word_of(kind: Kind) -> &'static [u8]

@@ -1,30 +1,13 @@
 //! The text of a term.
 
-ghost use Rattle.std.specs.Prelude.{◌≡◌, ◌<◌, ◌++◌, length, OnOk};
+ghost use Rattle.std.specs.Prelude.{◌≡◌, ◌++◌, OnOk};
 ghost use Rattle.alg_terms.specs.declared.file.File.{File};
-ghost use Rattle.alg_printer.specs.Terms.{var_name, hom_name, printed, part_text, term_text, IsNamed};
+ghost use Rattle.alg_printer.specs.Terms.{printed, part_text, term_text, IsNamed};
 
 use crate::NoMemory;
+use crate::names::{put_morphism, put_variable};
 use crate::text::Text;
 use alg_terms::{File, Term};
-
-/// The name of a variable.
-pub(crate) fn put_variable(text: &mut Text, file: &File, number: u32) -> Result<(), NoMemory>
-    requires { number < length file.now.vars }
-    ensures { OnOk result (text.new ≡ text.old ++ var_name file.now number) }
-{
-    let declared = &file.vars.items()[number as usize];
-    text.put(declared.name.text().as_bytes())
-}
-
-/// The name of a morphism.
-pub(crate) fn put_morphism(text: &mut Text, file: &File, number: u32) -> Result<(), NoMemory>
-    requires { number < length file.now.homs }
-    ensures { OnOk result (text.new ≡ text.old ++ hom_name file.now number) }
-{
-    let declared = &file.homs.items()[number as usize];
-    text.put(declared.name.text().as_bytes())
-}
 
 /// How tightly a term binds.
 #[tactic(auto, using(alg_terms::proofs::Built::built))]

@@ -1,6 +1,6 @@
 use Rattle.std.proofs.Common.{◌≡◌, ◌++◌, drop, codes}
 use Rattle.alg_printer.specs.Answers.{conditions_text}
-use Rattle.alg_printer.specs.Monomials.{listed}
+use Rattle.alg_printer.specs.Names.{listed}
 use Rattle.alg_printer.specs.Terms.{term_text}
 use Rattle.alg_printer.proofs.answers.put_conditions.Given as goal
 

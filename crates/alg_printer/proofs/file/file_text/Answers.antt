@@ -1,7 +1,7 @@
 use Rattle.std.proofs.Common.{sym, subst}
 use Rattle.std.specs.Prelude.{All}
 use Rattle.std.proofs.lemmas.List.Elements.{All-get_or}
-use Rattle.alg_printer.specs.Printable.{IsStatementOf}
+use Rattle.alg_printer.specs.Text.{IsStatementOf}
 use Rattle.alg_printer.proofs.Declared.{statements_are_of}
 use Rattle.alg_printer.proofs.file.file_text.Goals as goal
 

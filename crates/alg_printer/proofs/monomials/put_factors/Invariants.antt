@@ -1,5 +1,6 @@
 use Rattle.std.proofs.Common.{◌≡◌, ◌++◌, [], drop, codes, unwrap_or}
-use Rattle.alg_printer.specs.Monomials.{listed, factor_text, factors_text}
+use Rattle.alg_printer.specs.Monomials.{factor_text, factors_text}
+use Rattle.alg_printer.specs.Names.{listed}
 use Rattle.alg_printer.proofs.monomials.put_factors.Given as goal
 
 -- what is there, with what is left, makes what is wanted

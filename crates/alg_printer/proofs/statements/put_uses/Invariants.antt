@@ -1,5 +1,5 @@
 use Rattle.std.proofs.Common.{◌≡◌, ◌++◌, drop, codes}
-use Rattle.alg_printer.specs.Monomials.{listed}
+use Rattle.alg_printer.specs.Names.{listed}
 use Rattle.alg_printer.specs.Statements.{use_text, uses_text}
 use Rattle.alg_printer.proofs.statements.put_uses.Given as goal
 

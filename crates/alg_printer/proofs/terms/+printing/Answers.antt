@@ -1,7 +1,8 @@
 use Rattle.std.proofs.Common.{rules, SFits, to_z-of_z, ◌++◌, codes, append_assoc, sym, ap, ◌∙◌}
 use mir.Syntax.{w128}
 use Rattle.alg_terms.specs.declared.term.Term.TheViews.{the_lemmas}
-use Rattle.alg_printer.specs.Terms.{hom_name, term_text}
+use Rattle.alg_printer.specs.Names.{hom_name}
+use Rattle.alg_printer.specs.Terms.{term_text}
 use Rattle.alg_printer.proofs.Named.{named-Var, named-Neg, named-Pow, named-Hom, named-Hom-part, named-Add-left, named-Add-right, named-Sub-left, named-Sub-right, named-Mul-left, named-Mul-right, named-Div-left, named-Div-right}
 use Rattle.alg_printer.proofs.Pieces.{on_ok, in_front, more, grew}
 use Rattle.alg_printer.proofs.TermTexts.{text-Var, text-Int, text-Neg, text-Pow, text-Hom, text-Add, text-Sub, text-Mul, text-Div}

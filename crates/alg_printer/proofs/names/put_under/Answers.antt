@@ -1,6 +1,6 @@
 use Rattle.alg_printer.proofs.Paths.{under-is}
 use Rattle.alg_printer.proofs.Pieces.{more, grew}
-use Rattle.alg_printer.proofs.monomials.put_under.Goals as goal
+use Rattle.alg_printer.proofs.names.put_under.Goals as goal
 
 pub returns : goal.returns
 returns c =

@@ -1,7 +1,7 @@
 use Rattle.std.proofs.Common.{◌++◌, codes, drop, append_assoc, sym, ap, ◌∙◌, ◌+◌}
 use Rattle.std.proofs.lemmas.List.{at_drop_more}
-use Rattle.alg_printer.specs.Monomials.{closing}
-use Rattle.alg_printer.proofs.monomials.put_closing.Goals as goal
+use Rattle.alg_printer.specs.Names.{closing}
+use Rattle.alg_printer.proofs.names.put_closing.Goals as goal
 
 -- one more parenthesis
 pub loop-preserved : goal.loop-preserved

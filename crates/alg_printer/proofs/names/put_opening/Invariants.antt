@@ -1,6 +1,6 @@
 use Rattle.std.proofs.Common.{◌≡◌, ◌++◌, drop}
-use Rattle.alg_printer.specs.Monomials.{opening}
-use Rattle.alg_printer.proofs.monomials.put_opening.Given as goal
+use Rattle.alg_printer.specs.Names.{opening}
+use Rattle.alg_printer.proofs.names.put_opening.Given as goal
 
 -- what is there, with what is left, makes what is wanted
 abbrev pub invariant-loop-morphism : goal.invariant-loop-morphism
