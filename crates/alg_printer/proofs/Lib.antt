@@ -1,5 +1,6 @@
 pub mod Declared
 pub mod Leaves
+pub mod Letters
 pub mod Named
 pub mod Numbers
 pub mod Paths

@@ -5,3 +5,4 @@ pub mod Printable
 pub mod Statements
 pub mod Terms
 pub mod Text
+pub mod Trial

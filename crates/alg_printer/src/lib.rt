@@ -11,6 +11,8 @@ mod monomials;
 mod names;
 mod statements;
 mod terms;
+#[cfg(test)]
+mod tests;
 mod text;
 
 pub use alg_terms::NoMemory;

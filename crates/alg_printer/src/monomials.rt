@@ -39,7 +39,7 @@ pub(crate) fn goal_table(
 }
 
 /// An atom: its path over its variable.
-fn put_atom(text: &mut Text, file: &File, atom: &Atom) -> Result<(), NoMemory>
+pub(crate) fn put_atom(text: &mut Text, file: &File, atom: &Atom) -> Result<(), NoMemory>
     requires { IsAtomOf file.now atom.now }
     ensures { OnOk result (text.new ≡ text.old ++ atom_text file.now atom.now) }
 {
@@ -48,7 +48,7 @@ fn put_atom(text: &mut Text, file: &File, atom: &Atom) -> Result<(), NoMemory>
 }
 
 /// An exponent above 1.
-fn put_exponent(text: &mut Text, exponent: u32) -> Result<(), NoMemory>
+pub(crate) fn put_exponent(text: &mut Text, exponent: u32) -> Result<(), NoMemory>
     ensures { OnOk result (text.new ≡ text.old ++ exponent_text exponent) }
 {
     if exponent <= 1 {
