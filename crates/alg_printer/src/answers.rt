@@ -78,7 +78,12 @@ fn put_divisor(text: &mut Text, divisor: i128) -> Result<(), NoMemory>
 }
 
 /// A line of a certificate.
-fn put_line(text: &mut Text, file: &File, atoms: &Option<Atoms>, line: &Line) -> Result<(), NoMemory>
+fn put_line(
+    text: &mut Text,
+    file: &File,
+    atoms: &Option<Atoms>,
+    line: &Line,
+) -> Result<(), NoMemory>
     requires known { All (IsAtomOf file.now) (unwrap_or atoms.now []) }
     requires over { IsLineOver (unwrap_or atoms.now []) line.now }
     ensures { OnOk result (text.new ≡ text.old ++ line_text file.now (unwrap_or atoms.now []) line.now) }

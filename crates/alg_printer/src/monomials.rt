@@ -23,11 +23,7 @@ pub(crate) fn uses_of(method: &Method) -> &[Use]
 }
 
 /// The atoms of a goal's table, and None where it would have more than 1,000.
-pub(crate) fn goal_table(
-    alloc: Global,
-    file: &File,
-    goal: &Goal,
-) -> Result<Option<Atoms>, NoMemory>
+pub(crate) fn goal_table(alloc: Global, file: &File, goal: &Goal) -> Result<Option<Atoms>, NoMemory>
     requires { All (λ u. u.hyp < length file.now.hyps) (uses_of goal.now.method) }
     ensures { IfOk result (λ atoms. unwrap_or atoms [] ≡ goal_atoms file.now goal.now) }
 {
@@ -44,7 +40,12 @@ pub(crate) fn put_atom(text: &mut Text, file: &File, atom: &Atom) -> Result<(), 
     ensures { OnOk result (text.new ≡ text.old ++ atom_text file.now atom.now) }
 {
     let declared = &file.vars.items()[atom.var as usize];
-    put_under(text, file, atom.path.items(), declared.name.text().as_bytes())
+    put_under(
+        text,
+        file,
+        atom.path.items(),
+        declared.name.text().as_bytes(),
+    )
 }
 
 /// An exponent above 1.

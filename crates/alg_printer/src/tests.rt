@@ -54,21 +54,18 @@ fn letters(alloc: Global) -> Result<File, NoMemory>
     })
 }
 
-#[tactic(auto, using(crate::proofs::Letters::letter))]
 fn x() -> Term
     ensures { IsOfLetters result }
 {
     Term::Var(0)
 }
 
-#[tactic(auto, using(crate::proofs::Letters::letter))]
 fn y() -> Term
     ensures { IsOfLetters result }
 {
     Term::Var(1)
 }
 
-#[tactic(auto, using(crate::proofs::Letters::letter))]
 fn z() -> Term
     ensures { IsOfLetters result }
 {
@@ -83,7 +80,6 @@ fn negated(alloc: Global, part: Term) -> Result<Term, NoMemory>
     Ok(Term::Neg(Boxed::new(alloc, part)?))
 }
 
-#[tactic(auto, using(crate::proofs::Letters::power))]
 fn squared(alloc: Global, part: Term) -> Result<Term, NoMemory>
     requires { IsOfLetters part }
     ensures { IfOk result IsOfLetters }
@@ -100,7 +96,6 @@ fn image(alloc: Global, morphism: u32, part: Term) -> Result<Term, NoMemory>
     Ok(Term::Hom(morphism, Boxed::new(alloc, part)?))
 }
 
-#[tactic(auto, using(crate::proofs::Letters::sum, crate::proofs::Letters::difference, crate::proofs::Letters::product, crate::proofs::Letters::quotient))]
 fn both(alloc: Global, left: Term, sign: char, right: Term) -> Result<Term, NoMemory>
     requires left { IsOfLetters left }
     requires right { IsOfLetters right }
@@ -125,43 +120,58 @@ fn check(rt: &impl Abort, alloc: Global, term: &Term, want: &str) -> Result<(), 
     Ok(())
 }
 
+// x with y and z behind it, the two together.
+fn nested(alloc: Global, first: char, second: char) -> Result<Term, NoMemory>
+    ensures { IfOk result IsOfLetters }
+{
+    both(alloc, x(), first, both(alloc, y(), second, z())?)
+}
+
+// x and y together, with z behind them.
+fn grouped(alloc: Global, first: char, second: char) -> Result<Term, NoMemory>
+    ensures { IfOk result IsOfLetters }
+{
+    both(alloc, both(alloc, x(), first, y())?, second, z())
+}
+
+// Each row: two operators, and x, y and z with the right ones together, then with the left ones.
 #[test]
-fn sums_group_to_the_left(rt: HostRuntime) -> Result<(), Fail> {
-    let alloc = rt.alloc();
-    let right = both(alloc, x(), '-', both(alloc, y(), '-', z())?)?;
-    check(&rt, alloc, &right, "x - (y - z)")?;
-    let left = both(alloc, both(alloc, x(), '-', y())?, '-', z())?;
-    check(&rt, alloc, &left, "x - y - z")?;
-    let sum = both(alloc, x(), '+', both(alloc, y(), '*', z())?)?;
-    check(&rt, alloc, &sum, "x + y*z")?;
-    let opposite = both(alloc, x(), '+', negated(alloc, y())?)?;
-    check(&rt, alloc, &opposite, "x + -y")
+fn operators_group_to_the_left(rt: HostRuntime) -> Result<(), Fail> {
+    for (first, second, right, left) in [
+        ('-', '-', "x - (y - z)", "x - y - z"),
+        ('+', '+', "x + (y + z)", "x + y + z"),
+        ('+', '*', "x + y*z", "(x + y)*z"),
+        ('*', '-', "x*(y - z)", "x*y - z"),
+        ('/', '/', "x/(y/z)", "x/y/z"),
+        ('*', '/', "x*(y/z)", "x*y/z"),
+    ] {
+        check(&rt, rt.alloc(), &nested(rt.alloc(), first, second)?, right)?;
+        check(&rt, rt.alloc(), &grouped(rt.alloc(), first, second)?, left)?;
+    }
+    Ok(())
 }
 
 #[test]
-fn products_group_to_the_left(rt: HostRuntime) -> Result<(), Fail> {
+fn minus_signs_bind_tighter_than_operators(rt: HostRuntime) -> Result<(), Fail> {
     let alloc = rt.alloc();
-    let right = both(alloc, x(), '/', both(alloc, y(), '/', z())?)?;
-    check(&rt, alloc, &right, "x/(y/z)")?;
-    let left = both(alloc, both(alloc, x(), '/', y())?, '*', z())?;
-    check(&rt, alloc, &left, "x/y*z")?;
-    let sum = both(alloc, both(alloc, x(), '+', y())?, '*', z())?;
-    check(&rt, alloc, &sum, "(x + y)*z")?;
-    let opposite = both(alloc, x(), '*', negated(alloc, y())?)?;
-    check(&rt, alloc, &opposite, "x*-y")
+    let of_sum = negated(alloc, both(alloc, x(), '+', y())?)?;
+    check(&rt, alloc, &of_sum, "-(x + y)")?;
+    let in_product = both(alloc, x(), '*', negated(alloc, y())?)?;
+    check(&rt, alloc, &in_product, "x*-y")
 }
 
 #[test]
 fn powers_bind_tighter_than_minus_signs(rt: HostRuntime) -> Result<(), Fail> {
     let alloc = rt.alloc();
-    let of_sum = negated(alloc, both(alloc, x(), '+', y())?)?;
-    check(&rt, alloc, &of_sum, "-(x + y)")?;
     let of_opposite = squared(alloc, negated(alloc, x())?)?;
     check(&rt, alloc, &of_opposite, "(-x)^2")?;
     let of_power = negated(alloc, squared(alloc, x())?)?;
-    check(&rt, alloc, &of_power, "-x^2")?;
-    let of_square = squared(alloc, squared(alloc, x())?)?;
-    check(&rt, alloc, &of_square, "(x^2)^2")?;
+    check(&rt, alloc, &of_power, "-x^2")
+}
+
+#[test]
+fn arguments_stand_in_parentheses(rt: HostRuntime) -> Result<(), Fail> {
+    let alloc = rt.alloc();
     let of_image = squared(alloc, image(alloc, F, both(alloc, x(), '+', y())?)?)?;
     check(&rt, alloc, &of_image, "f(x + y)^2")
 }
