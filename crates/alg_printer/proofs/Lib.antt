@@ -7,3 +7,4 @@ pub mod Paths
 pub mod Pieces
 pub mod Tables
 pub mod TermTexts
+pub mod Trial

@@ -18,5 +18,6 @@ names_turn file first count k old a new below space name =
     let next = numbers-from (first + k) (first + (k + 1)) (count - k) (count - (k + 1)) (omega arith) (omega arith) in
     ap (λ l. l ++ names_text file (numbers_from (first + (k + 1)) (count - (k + 1))))
     (name ∙ ap (λ l. l ++ var_name file (first + k)) space ∙ append_assoc old (codes " ") (var_name file (first + k)))
-    ∙ append_assoc old (codes " " ++ var_name file (first + k)) (names_text file (numbers_from (first + (k + 1)) (count - (k + 1))))
+    ∙ append_assoc old (codes " " ++ var_name file (first + k))
+    (names_text file (numbers_from (first + (k + 1)) (count - (k + 1))))
     ∙ ap (λ ns. old ++ names_text file ns) (sym next)

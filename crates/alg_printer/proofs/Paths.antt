@@ -7,7 +7,8 @@ use Rattle.alg_printer.specs.Names.{hom_name, in_parentheses}
 -- one more parenthesis may stand at either end
 closing_comm : (path : List ℕ) → closing path ++ codes ")" ≡ codes ")" ++ closing path
 closing_comm [] = refl
-closing_comm (f ∷ path) = append_assoc (codes ")") (closing path) (codes ")") ∙ ap (λ l. codes ")" ++ l) (closing_comm path)
+closing_comm (f ∷ path) =
+    append_assoc (codes ")") (closing path) (codes ")") ∙ ap (λ l. codes ")" ++ l) (closing_comm path)
 
 regroup : (h o n c p q : List ℕ) → h ++ (o ++ (p ++ n ++ c) ++ q) ≡ (h ++ o ++ p) ++ n ++ (c ++ q)
 regroup h o n c p q = simp append_assoc

@@ -15,7 +15,8 @@ answer_at answers i = slice_index_or answers i None
 
 -- goal number i with its answer below it
 abbrev pub answered_text : File → List (Option Answer) → ℕ → List ℕ
-answered_text file answers i = goal_text file (goal_at file i) ++ optional_text file (goal_at file i) (answer_at answers i)
+answered_text file answers i =
+    goal_text file (goal_at file i) ++ optional_text file (goal_at file i) (answer_at answers i)
 
 -- a statement
 abbrev pub statement_text : File → List (Option Answer) → Statement → List ℕ

@@ -13,4 +13,5 @@ put_answer-requires-clause-atoms c =
     let it = c.index-items-number.result in
     let is = c.index-items-number.is ∙ ap (λ gs. get_or gs c.args.number it) c.items.ensures
     ∙ get_or_default file.goals c.args.number it no_goal c.requires.declared in
-    subst (λ g. AreAtoms file (goal_atoms file g)) (sym is) (goal_has file c.args.number c.requires.valid c.requires.declared)
+    subst (λ g. AreAtoms file (goal_atoms file g)) (sym is)
+    (goal_has file c.args.number c.requires.valid c.requires.declared)

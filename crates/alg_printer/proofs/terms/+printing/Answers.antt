@@ -62,12 +62,14 @@ put_term-put_part-requires-in-Div-2 t c =
 -- the text grew by that of the node
 pub put_term-returns-in-Var : goal.put_term-returns-in-Var
 put_term-returns-in-Var t c =
-    on_ok c.put_variable.result _ _ (λ h. h ∙ ap (λ l. c.args.text.now ++ l) (sym (text-Var c.args.file.now _ _ c.in-Var.is))) c.put_variable.ensures
+    on_ok c.put_variable.result _ _
+    (λ h. h ∙ ap (λ l. c.args.text.now ++ l) (sym (text-Var c.args.file.now _ _ c.in-Var.is))) c.put_variable.ensures
 
 pub put_term-returns-in-Int : goal.put_term-returns-in-Int
 put_term-returns-in-Int t c =
     let fits : SFits w128 c.in-Int.value = search rules in
-    on_ok c.integer.result _ _ (λ h. h ∙ ap (λ l. c.args.text.now ++ l) (sym (text-Int c.args.file.now _ _ c.in-Int.is)))
+    on_ok c.integer.result _ _
+    (λ h. h ∙ ap (λ l. c.args.text.now ++ l) (sym (text-Int c.args.file.now _ _ c.in-Int.is)))
     (simp to_z-of_z at c.integer.ensures)
 
 pub put_term-returns-in_ok-put-in-Neg : goal.put_term-returns-in_ok-put-in-Neg
@@ -83,8 +85,11 @@ put_term-returns-in_ok-put-in-Pow t c =
 pub put_term-returns-in_ok-put_term-in-Hom : goal.put_term-returns-in_ok-put_term-in-Hom
 put_term-returns-in_ok-put_term-in-Hom t c =
     grew c.put-in-Hom-2.result _ _ _ _ _ _
-    (text-Hom c.args.file.now _ _ _ _ c.in-Hom.is c.get-in-Hom.ensures ∙ in_front (hom_name c.args.file.now c.in-Hom.number) (codes "(") (term_text c.args.file.now c.get-in-Hom.result.now) (codes ")"))
-    (more _ _ _ _ _ (more _ _ _ _ _ c.in_ok-put_morphism-in-Hom.ensures c.in_ok-put-in-Hom.ensures) c.in_ok-put_term-in-Hom.ensures)
+    (text-Hom c.args.file.now _ _ _ _ c.in-Hom.is c.get-in-Hom.ensures
+    ∙ in_front (hom_name c.args.file.now c.in-Hom.number) (codes "(")
+    (term_text c.args.file.now c.get-in-Hom.result.now) (codes ")"))
+    (more _ _ _ _ _ (more _ _ _ _ _ c.in_ok-put_morphism-in-Hom.ensures c.in_ok-put-in-Hom.ensures)
+    c.in_ok-put_term-in-Hom.ensures)
     c.put-in-Hom-2.ensures
 
 pub put_term-returns-in_ok-put-in-Add : goal.put_term-returns-in_ok-put-in-Add

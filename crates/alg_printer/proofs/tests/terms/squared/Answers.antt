@@ -1,7 +1,7 @@
 use Rattle.std.proofs.Common.{sym, subst}
 use Rattle.alg_printer.specs.Trial.{IsOfLetters}
 use Rattle.alg_printer.proofs.Letters.{power}
-use Rattle.alg_printer.proofs.tests.squared.Goals as goal
+use Rattle.alg_printer.proofs.tests.terms.squared.Goals as goal
 
 -- the base is over the letters
 pub returns : goal.returns

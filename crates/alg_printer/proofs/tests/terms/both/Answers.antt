@@ -1,7 +1,7 @@
 use Rattle.std.proofs.Common.{sym, subst}
 use Rattle.alg_printer.specs.Trial.{IsOfLetters}
 use Rattle.alg_printer.proofs.Letters.{sum, difference, product, quotient}
-use Rattle.alg_printer.proofs.tests.both.Goals as goal
+use Rattle.alg_printer.proofs.tests.terms.both.Goals as goal
 
 -- both parts are over the letters
 pub returns-in-43 : goal.returns-in-43
