@@ -1,5 +1,5 @@
 -- Terms that tests build are over the letters.
-use Rattle.std.proofs.Common.{◌≡◌, ◌<◌, ℕ, length, arith, pos, ℤ}
+use Rattle.std.proofs.Common.{◌<◌, ℕ, arith, ℤ}
 use Rattle.alg_terms.specs.declared.term.Term.{Term}
 use Rattle.alg_terms.specs.declared.term.Term.TheVariants.{Var, Int, Neg, Add, Sub, Mul, Div, Pow, Hom}
 use Rattle.alg_terms.specs.Nodes.{EachNode}

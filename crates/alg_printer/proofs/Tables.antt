@@ -1,8 +1,8 @@
 -- The atoms of a goal's table are of the file.
-use Rattle.std.proofs.Common.{◌≡◌, ◌<◌, ℕ, Bool, true, false, List, [], ◌∷◌, ◌++◌, flat_map, length, nat_le, sym, subst, if◌then◌else◌}
+use Rattle.std.proofs.Common.{◌<◌, ℕ, Bool, true, false, List, [], ◌∷◌, ◌++◌, flat_map, length, nat_le, sym, subst, if◌then◌else◌}
 use Rattle.std.specs.Prelude.{All}
 use Rattle.std.proofs.lemmas.List.{get_or_default}
-use Rattle.std.proofs.lemmas.List.Elements.{All-nil, All-cons, All-head, All-tail, All-append, All-filter, All-get_or, All-weaker}
+use Rattle.std.proofs.lemmas.List.Elements.{All-nil, All-cons, All-head, All-tail, All-append, All-filter, All-get_or}
 use Rattle.alg_terms.specs.declared.file.File.{File}
 use Rattle.alg_terms.specs.declared.goals.Equation.{Equation}
 use Rattle.alg_terms.specs.declared.goals.Method.{Method}
@@ -12,7 +12,7 @@ use Rattle.alg_terms.specs.declared.term.Atom.{Atom}
 use Rattle.alg_terms.specs.GoalRules.{IsGoal, IsHyp, IsUse, IsEquation, MayBeBy}
 use Rattle.alg_terms.specs.Members.{hyp_at, no_hyp, goal_at, no_goal, uses_of}
 use Rattle.alg_terms.specs.Valid.{IsValid}
-use Rattle.alg_reify.specs.Table.{atom_eq, each_once, equation_leaves, use_leaves, table, MAX_ATOMS}
+use Rattle.alg_reify.specs.Table.{each_once, equation_leaves, use_leaves, table, MAX_ATOMS}
 use Rattle.alg_reify.proofs.Uses.{use_leaves-at}
 use Rattle.alg_printer.specs.Monomials.{goal_atoms, IsAtomOf}
 use Rattle.alg_printer.proofs.Leaves.{AreAtoms, AreNamed, equation_has}

@@ -1,5 +1,5 @@
 -- The answers that the printing is tried on can be printed.
-use Rattle.std.proofs.Common.{◌≡◌, ◌<◌, ◌≤◌, ℕ, zero, suc, List, [], ◌∷◌, length, refl, subst, sym, arith, rules, lit<, lit≤, pos, negsuc}
+use Rattle.std.proofs.Common.{◌≡◌, ◌<◌, ℕ, zero, suc, List, [], length, refl, subst, sym, arith, rules, lit<, lit≤, pos}
 use Rattle.std.specs.Prelude.{All, IfSome, Option}
 use Rattle.std.proofs.lemmas.List.Elements.{All-nil, All-cons}
 use Rattle.alg_lines.specs.declared.answer.Answer.{Answer}

@@ -1,5 +1,5 @@
 -- What the printing is tried on: terms over a few names, and answers to the goals of the small file.
-use Rattle.std.specs.Prelude.{◌≡◌, ℕ, List, [], ◌∷◌, length, pos, negsuc, Option, Some}
+use Rattle.std.specs.Prelude.{◌≡◌, List, [], ◌∷◌, length, pos, negsuc, Option, Some}
 use Rattle.alg_lines.specs.declared.answer.Answer.{Answer}
 use Rattle.alg_lines.specs.declared.answer.Answer.TheVariants.{Proved, Certified}
 use Rattle.alg_lines.specs.declared.cert.GoalStep.{GoalStep}

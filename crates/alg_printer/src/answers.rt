@@ -86,7 +86,8 @@ fn put_line(
 ) -> Result<(), NoMemory>
     requires known { All (IsAtomOf file.now) (unwrap_or atoms.now []) }
     requires over { IsLineOver (unwrap_or atoms.now []) line.now }
-    ensures { OnOk result (text.new ≡ text.old ++ line_text file.now (unwrap_or atoms.now []) line.now) }
+    ensures { OnOk result (text.new
+        ≡ text.old ++ line_text file.now (unwrap_or atoms.now []) line.now) }
 {
     text.put(b"  line ")?;
     put_multiple(text, file, atoms, line.a, &line.m, line.i)?;
@@ -104,7 +105,8 @@ fn put_step(
 ) -> Result<(), NoMemory>
     requires known { All (IsAtomOf file.now) (unwrap_or atoms.now []) }
     requires over { IsStepOver (unwrap_or atoms.now []) step.now }
-    ensures { OnOk result (text.new ≡ text.old ++ step_text file.now (unwrap_or atoms.now []) step.now) }
+    ensures { OnOk result (text.new
+        ≡ text.old ++ step_text file.now (unwrap_or atoms.now []) step.now) }
 {
     text.put(b"  step ")?;
     text.integer(step.a)?;

@@ -79,7 +79,8 @@ pub(crate) fn put_monomial(
 ) -> Result<(), NoMemory>
     requires known { All (IsAtomOf file.now) (unwrap_or atoms.now []) }
     requires over { IsOver (unwrap_or atoms.now []) mono.now }
-    ensures { OnOk result (text.new ≡ text.old ++ mono_text file.now (unwrap_or atoms.now []) mono.now) }
+    ensures { OnOk result (text.new
+        ≡ text.old ++ mono_text file.now (unwrap_or atoms.now []) mono.now) }
 {
     if mono.pairs().is_empty() {
         return text.put(b"1");
@@ -96,7 +97,8 @@ fn put_factors(
 ) -> Result<(), NoMemory>
     requires known { All (IsAtomOf file.now) (unwrap_or atoms.now []) }
     requires over { IsOver (unwrap_or atoms.now []) pairs.now }
-    ensures { OnOk result (text.new ≡ text.old ++ factors_text file.now (unwrap_or atoms.now []) pairs.now) }
+    ensures { OnOk result (text.new
+        ≡ text.old ++ factors_text file.now (unwrap_or atoms.now []) pairs.now) }
 {
     let mut front: &[u8] = b"";
     for (atom, exponent) in pairs {

@@ -1,4 +1,4 @@
-use Rattle.std.proofs.Common.{rules, SFits, to_z-of_z, ◌++◌, codes, append_assoc, sym, ap, ◌∙◌}
+use Rattle.std.proofs.Common.{rules, SFits, to_z-of_z, ◌++◌, codes, sym, ap, ◌∙◌}
 use mir.Syntax.{w128}
 use Rattle.alg_terms.specs.declared.term.Term.TheViews.{the_lemmas}
 use Rattle.alg_printer.specs.Names.{hom_name}
