@@ -41,7 +41,10 @@ inverse = record {
 }
 
 one : (atoms : List Atom) → IsMonomialOver atoms []
-one atoms = record { canonical = record { canonical = record { rises = tt; no_none = tt }; small = lit≤ tt }; over = All-nil (λ e. e.0 < length atoms) }
+one atoms = record {
+  canonical = record { canonical = record { rises = tt; no_none = tt }; small = lit≤ tt };
+  over = All-nil (λ e. e.0 < length atoms);
+}
 
 two : IsNumeral (pos 2)
 two = search rules

@@ -1,6 +1,6 @@
 //! The text of an answer.
 
-ghost use Rattle.std.specs.Prelude.{◌≡◌, ◌<◌, ◌++◌, ℕ, List, [], length, All, codes, decimal, unwrap_or, OnOk};
+ghost use Rattle.std.specs.Prelude.{◌≡◌, ◌<◌, ◌++◌, [], length, All, codes, decimal, unwrap_or, OnOk};
 ghost use Rattle.std.specs.List.{flat_map};
 ghost use Rattle.alg_terms.specs.Members.{uses_of};
 ghost use Rattle.alg_printer.specs.Answers.{conditions_text, constants_text, multiple_text, divisor_text, line_text, step_text, power_text, cert_text, no_text, answer_text};

@@ -1,6 +1,6 @@
 //! The text of a file with its answers.
 
-ghost use Rattle.std.specs.Prelude.{◌≡◌, ◌<◌, ◌++◌, List, length, IfOk, OnOk};
+ghost use Rattle.std.specs.Prelude.{◌≡◌, ◌<◌, ◌++◌, length, IfOk, OnOk};
 ghost use Rattle.alg_terms.specs.Valid.{IsValid};
 ghost use Rattle.alg_printer.specs.Printable.{ArePrintable};
 ghost use Rattle.alg_printer.specs.Text.{IsStatementOf, answered_text, statement_text, text_of};

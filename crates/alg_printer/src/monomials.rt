@@ -1,6 +1,6 @@
 //! The text of a monomial over a goal's atoms.
 
-ghost use Rattle.std.specs.Prelude.{◌≡◌, ◌<◌, ◌≤◌, ◌++◌, ℕ, List, [], length, All, unwrap_or, IfOk, OnOk};
+ghost use Rattle.std.specs.Prelude.{◌≡◌, ◌<◌, ◌++◌, [], length, All, unwrap_or, IfOk, OnOk};
 ghost use Rattle.alg_terms.specs.Members.{uses_of};
 ghost use Rattle.alg_printer.specs.Monomials.{atom_text, goal_atoms, exponent_text, factors_text, mono_text, atom_at, IsAtomOf, IsOver};
 
@@ -13,7 +13,7 @@ use alg_terms::{Atom, File, Goal, Method, Use};
 use std::alloc::{AllocError, Global};
 
 /// The uses of a method.
-pub(crate) fn uses_of(method: &Method) -> &[Use]
+fn uses_of(method: &Method) -> &[Use]
     ensures { result.now ≡ uses_of method.now }
 {
     match method {

@@ -1,6 +1,6 @@
 //! The text of a statement.
 
-ghost use Rattle.std.specs.Prelude.{◌≡◌, ◌<◌, ◌≤◌, ◌++◌, ◌+◌, ◌^◌, ℕ, List, length, All, OnOk};
+ghost use Rattle.std.specs.Prelude.{◌≡◌, ◌<◌, ◌≤◌, ◌++◌, ◌+◌, ◌^◌, length, All, OnOk};
 ghost use Rattle.alg_terms.specs.Members.{sort_of_var, uses_of};
 ghost use Rattle.alg_terms.specs.Order.{numbers_from};
 ghost use Rattle.alg_printer.specs.Names.{IsPathOf};

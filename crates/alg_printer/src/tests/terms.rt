@@ -1,6 +1,6 @@
 //! Terms and atoms in print.
 
-ghost use Rattle.std.specs.Prelude.{◌≡◌, ◌<◌, ◌≤◌, length, IfOk};
+ghost use Rattle.std.specs.Prelude.{◌<◌, IfOk};
 ghost use Rattle.alg_printer.specs.Trial.{HasLetters, IsOfLetters};
 
 use crate::NoMemory;
