@@ -1,0 +1,10 @@
+pub mod Declared
+pub mod Leaves
+pub mod Letters
+pub mod Named
+pub mod Numbers
+pub mod Paths
+pub mod Pieces
+pub mod Tables
+pub mod TermTexts
+pub mod Trial

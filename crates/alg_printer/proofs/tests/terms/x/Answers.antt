@@ -1,0 +1,6 @@
+use Rattle.std.proofs.Common.{lit<}
+use Rattle.alg_printer.proofs.Letters.{letter}
+use Rattle.alg_printer.proofs.tests.terms.x.Goals as goal
+
+pub returns : goal.returns
+returns c = letter 0 (lit< tt)

@@ -1,0 +1,50 @@
+-- The text of a monomial over a goal's atoms.
+use Rattle.std.specs.Prelude.{◌<◌, ℕ, List, [], ◌∷◌, ◌++◌, codes, decimal, length, All, nat_lt, nat_le, if◌then◌else◌, slice_index_or}
+use Rattle.alg_mono.specs.Mono.{Pairs}
+use Rattle.alg_terms.specs.declared.file.File.{File}
+use Rattle.alg_terms.specs.declared.goals.Goal.{Goal}
+use Rattle.alg_terms.specs.declared.term.Atom.{Atom}
+use Rattle.alg_terms.specs.Members.{uses_of}
+use Rattle.alg_reify.specs.Table.{table, MAX_ATOMS}
+use Rattle.alg_printer.specs.Names.{var_name, under, listed, IsPathOf}
+
+-- an atom: its path over its variable
+abbrev pub atom_text : File → Atom → List ℕ
+atom_text file atom = under file atom.path (var_name file atom.var)
+
+-- the atoms that the monomials of a goal's answer may have: its table, and none where that would have too many
+abbrev pub goal_atoms : File → Goal → List Atom
+goal_atoms file goal =
+    let atoms = table file goal.equation (uses_of goal.method) in if nat_le (length atoms) MAX_ATOMS then atoms else []
+
+abbrev pub no_atom : Atom
+no_atom = record { path = []; var = 0 }
+
+-- atom number k
+abbrev pub atom_at : List Atom → ℕ → Atom
+atom_at atoms k = slice_index_or atoms k no_atom
+
+-- an exponent above 1
+abbrev pub exponent_text : ℕ → List ℕ
+exponent_text n = if nat_lt 1 n then codes "^" ++ decimal n else []
+
+-- a factor of a monomial: an atom to its exponent
+abbrev pub factor_text : File → List Atom → ℕ × ℕ → List ℕ
+factor_text file atoms e = atom_text file (atom_at atoms e.0) ++ exponent_text e.1
+
+-- factors with `*` between
+abbrev pub factors_text : File → List Atom → Pairs → List ℕ
+factors_text file atoms m = listed [] (codes "*") (factor_text file atoms) m
+
+-- a monomial: 1, or its factors
+abbrev pub mono_text : File → List Atom → Pairs → List ℕ
+mono_text file atoms [] = codes "1"
+mono_text file atoms (e ∷ m) = factors_text file atoms (e ∷ m)
+
+-- the variable and the morphisms of an atom are of the file
+abbrev pub IsAtomOf : File → Atom → Type 0
+IsAtomOf file atom = IsPathOf file atom.path × (atom.var < length file.vars)
+
+-- the atoms of a monomial are among these
+abbrev pub IsOver : List Atom → Pairs → Type 0
+IsOver atoms m = All (λ e. e.0 < length atoms) m

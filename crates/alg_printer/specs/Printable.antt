@@ -1,0 +1,104 @@
+-- When answers can be printed.
+use Rattle.std.specs.Prelude.{◌≡◌, ◌<◌, ◌^◌, ℕ, ℤ, pos, ◌≤ℤ◌, List, length, All, Option, IfSome, unsigned_abs}
+use Rattle.std.specs.Ordering.{nat_cmp}
+use Rattle.alg_lines.specs.declared.answer.Answer.{Answer}
+use Rattle.alg_lines.specs.declared.answer.Answer.TheVariants.{Proved, Certified, No, ZeroDenominator, NoneUpTo, GaveUp, Atoms, Range, Degree}
+use Rattle.alg_lines.specs.declared.cert.Cert.{Cert}
+use Rattle.alg_lines.specs.declared.cert.GoalStep.{GoalStep}
+use Rattle.alg_lines.specs.declared.cert.Line.{Line}
+use Rattle.alg_mono.specs.Mono.{Pairs}
+use Rattle.alg_mono.specs.Monomials.{IsMono}
+use Rattle.alg_terms.specs.declared.file.File.{File}
+use Rattle.alg_terms.specs.declared.goals.Goal.{Goal}
+use Rattle.alg_terms.specs.declared.goals.Method.{Method}
+use Rattle.alg_terms.specs.declared.goals.Method.TheVariants.{ByRing, ByField, ByNsatz}
+use Rattle.alg_terms.specs.declared.limits.TheConstants.{MAX_LITERAL}
+use Rattle.alg_terms.specs.declared.term.Atom.{Atom}
+use Rattle.alg_terms.specs.declared.term.Term.{Term}
+use Rattle.alg_terms.specs.Members.{goal_at}
+use Rattle.alg_terms.specs.Sorts.{sort_beside}
+use Rattle.alg_terms.specs.TermRules.{IsTerm, HasNoQuotient, HasFieldQuotients}
+use Rattle.alg_printer.specs.Monomials.{goal_atoms, IsOver}
+use Rattle.alg_printer.specs.Text.{answer_at}
+
+-- the forms of answers that belong to a method
+abbrev pub HasForm : Method → Answer → Type 0
+HasForm ByRing (Proved conditions) = Unit {0}
+HasForm ByRing (No at left right) = Unit {0}
+HasForm ByRing Atoms = Unit {0}
+HasForm ByRing Range = Unit {0}
+HasForm ByRing Degree = Unit {0}
+HasForm ByRing _ = ⊥
+HasForm ByField (Proved conditions) = Unit {0}
+HasForm ByField (No at left right) = Unit {0}
+HasForm ByField (ZeroDenominator denominator) = Unit {0}
+HasForm ByField Atoms = Unit {0}
+HasForm ByField Range = Unit {0}
+HasForm ByField Degree = Unit {0}
+HasForm ByField _ = ⊥
+HasForm (ByNsatz uses power limit) (Certified constants cert) = Unit {0}
+HasForm (ByNsatz uses power limit) (NoneUpTo greatest) = Unit {0}
+HasForm (ByNsatz uses power limit) (GaveUp moves) = Unit {0}
+HasForm (ByNsatz uses power limit) Atoms = Unit {0}
+HasForm (ByNsatz uses power limit) Range = Unit {0}
+HasForm (ByNsatz uses power limit) Degree = Unit {0}
+HasForm (ByNsatz uses power limit) _ = ⊥
+
+-- quotients stand where a goal by the method may have them
+abbrev pub MayDivide : File → Goal → Method → Term → Type 0
+MayDivide file goal ByField t = HasFieldQuotients file (sort_beside file goal.equation.sort t) t
+MayDivide file goal _ t = HasNoQuotient t
+
+-- a term that may stand in the answer to a goal
+pub record IsAnswerTerm (file : File) (goal : Goal) (t : Term) : Type 0 where
+  pub term : IsTerm file t
+  pub quotients : MayDivide file goal goal.method t
+
+-- a number that is printed without a sign, and one that may have a sign
+abbrev pub IsNumeral : ℤ → Type 0
+IsNumeral n = (pos 0 ≤ℤ n) × (n ≤ℤ MAX_LITERAL)
+
+abbrev pub IsInteger : ℤ → Type 0
+IsInteger n = unsigned_abs n < 2 ^ 127
+
+-- a monomial over these atoms, within the limits
+pub record IsMonomialOver (atoms : List Atom) (m : Pairs) : Type 0 where
+  pub canonical : IsMono nat_cmp m
+  pub over : IsOver atoms m
+
+-- a line and a step with monomials over these atoms
+pub record IsLineOver (atoms : List Atom) (line : Line) : Type 0 where
+  pub a : IsNumeral line.a
+  pub m : IsMonomialOver atoms line.m
+  pub b : IsInteger line.b
+  pub n : IsMonomialOver atoms line.n
+  pub d : IsNumeral line.d
+
+pub record IsStepOver (atoms : List Atom) (step : GoalStep) : Type 0 where
+  pub a : IsNumeral step.a
+  pub b : IsInteger step.b
+  pub n : IsMonomialOver atoms step.n
+  pub d : IsNumeral step.d
+
+pub record IsCertOver (atoms : List Atom) (cert : Cert) : Type 0 where
+  pub lines : All (IsLineOver atoms) cert.lines
+  pub steps : All (IsStepOver atoms) cert.steps
+
+-- the terms, monomials and numbers of an answer can be printed
+abbrev pub HasParts : File → Goal → Answer → Type 0
+HasParts file goal (Proved conditions) = All (IsAnswerTerm file goal) conditions
+HasParts file goal (Certified constants cert) = All IsNumeral constants × IsCertOver (goal_atoms file goal) cert
+HasParts file goal (No at left right) =
+    IsMonomialOver (goal_atoms file goal) at × IsInteger left × IsInteger right
+HasParts file goal (ZeroDenominator denominator) = IsAnswerTerm file goal denominator
+HasParts file goal _ = Unit {0}
+
+-- an answer that can be printed below a goal
+pub record IsPrintable (file : File) (goal : Goal) (answer : Answer) : Type 0 where
+  pub form : HasForm goal.method answer
+  pub parts : HasParts file goal answer
+
+-- one optional answer for each goal, and each can be printed below its goal
+pub record ArePrintable (file : File) (answers : List (Option Answer)) : Type 0 where
+  pub count : length answers ≡ length file.goals
+  pub each : (i : ℕ) → i < length file.goals → IfSome (answer_at answers i) (IsPrintable file (goal_at file i))

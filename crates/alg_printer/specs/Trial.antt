@@ -1,0 +1,34 @@
+-- What the printing is tried on: terms over a few names, and answers to the goals of the small file.
+use Rattle.std.specs.Prelude.{◌≡◌, List, [], ◌∷◌, length, pos, negsuc, Option, Some}
+use Rattle.alg_lines.specs.declared.answer.Answer.{Answer}
+use Rattle.alg_lines.specs.declared.answer.Answer.TheVariants.{Proved, Certified}
+use Rattle.alg_lines.specs.declared.cert.GoalStep.{GoalStep}
+use Rattle.alg_lines.specs.declared.cert.Line.{Line}
+use Rattle.alg_terms.specs.declared.file.File.{File}
+use Rattle.alg_terms.specs.declared.term.Term.{Term}
+use Rattle.alg_terms.specs.declared.term.Term.TheVariants.{Var}
+use Rattle.alg_printer.specs.Terms.{IsNamed}
+
+-- three variables and two morphisms
+abbrev pub HasLetters : File → Type 0
+HasLetters file = (length file.vars ≡ 3) × (length file.homs ≡ 2)
+
+-- a term over these
+abbrev pub IsOfLetters : Term → Type 0
+IsOfLetters t = (file : File) → HasLetters file → IsNamed file t
+
+-- answers to the goals of the small file: one with a condition, and one with a certificate of one line and one step
+abbrev pub inverse_answer : Answer
+inverse_answer = Proved (Var 1 ∷ [])
+
+abbrev pub one_line : List Line
+one_line = record { a = pos 1; m = []; i = 1; b = negsuc 0; n = []; j = 1; d = pos 2 } ∷ []
+
+abbrev pub one_step : List GoalStep
+one_step = record { a = pos 1; b = pos 1; n = []; j = 2; d = pos 1 } ∷ []
+
+abbrev pub image_answer : Answer
+image_answer = Certified (pos 2 ∷ []) (record { power = 1; lines = one_line; steps = one_step })
+
+abbrev pub small_answers : List (Option Answer)
+small_answers = Some inverse_answer ∷ Some image_answer ∷ []

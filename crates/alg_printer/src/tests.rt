@@ -1,0 +1,4 @@
+//! Terms, atoms and a whole file in print.
+
+mod files;
+mod terms;
