@@ -7,7 +7,7 @@ use Rattle.alg_reader.specs.TooDeep.{node_depths}
 use Rattle.alg_reader.specs.RawNodes.{at}
 
 pub depths_agree : (head : ℕ) (node : RawNode) → (fold_raw node_depths (at head node)).depth ≡ depth_of (at head node)
-unfolding fold_raw fold_under
+unfolding fold_under
 depths_agree head (Var name) = refl
 depths_agree head (Int n) = refl
 depths_agree head (Neg' p (more_of-RawTerm h t rest)) = ap (λ n. 1 + n) (depths_agree h t)
@@ -28,5 +28,5 @@ depths_agree head (Hom' name p (more_of-RawTerm h t rest)) = ap (λ n. 1 + n) (d
 
 -- of a whole term
 pub depth_agrees : (t : RawTerm) → (fold_raw node_depths t).depth ≡ depth_of t
-unfolding fold_raw fold_under
+unfolding fold_under
 depth_agrees t = depths_agree t.head t.node

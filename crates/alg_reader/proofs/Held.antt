@@ -76,11 +76,11 @@ module _ (head : ℕ) (full node : RawNode) (below part : ℕ) (first : Option �
 -- ---- leaves
 
 pub literal_held : (t : Token) → leaf_part (literal t) ≡ held (literal t)
-unfolding held fold_raw fold_under
+unfolding held fold_under
 literal_held t = refl
 
 pub variable_held : (t : Token) → leaf_part (variable t) ≡ held (variable t)
-unfolding held fold_raw fold_under
+unfolding held fold_under
 variable_held t = refl
 
 -- ---- nodes with one part

@@ -36,7 +36,7 @@ use Rattle.alg_reader.proofs.Derivations.{found}
 -- ---- what is kept of terms
 
 zero_well : (text : List ℕ) (head : ℕ) → IsWellTerm text (node_at head (Int (pos 0)))
-unfolding fold_raw fold_under
+unfolding fold_under
 zero_well text head = record {
   names = λ k d h. absurd (omega arith);
   literals = all_of (λ n. (pos 0 ≤ℤ n) × (n ≤ℤ MAX_LITERAL)) (pos 0 ∷ []) (

@@ -1,0 +1,153 @@
+-- Equations, hypotheses, uses and goals in a file with more members: they keep the rules that they kept.
+use Rattle.std.proofs.Common.{◌≡◌, ◌≢◌, ◌<◌, ◌≤◌, ℕ, true, List, [], ◌∷◌, length, Option, None, Some, refl, sym, ap, ◌∙◌, subst, arith}
+use Rattle.std.specs.Prelude.{All, IfSome, slice_index_or}
+use Rattle.std.specs.Option.{option_or}
+use Rattle.std.proofs.lemmas.List.Elements.{All-head, All-tail, All-cons, All-nil, All-weaker, All-get_or}
+use Rattle.alg_terms.specs.declared.file.File.{File}
+use Rattle.alg_terms.specs.declared.goals.Equation.{Equation}
+use Rattle.alg_terms.specs.declared.goals.Goal.{Goal}
+use Rattle.alg_terms.specs.declared.goals.Hyp.{Hyp}
+use Rattle.alg_terms.specs.declared.goals.Method.{Method}
+use Rattle.alg_terms.specs.declared.goals.Method.TheVariants.{ByRing, ByField, ByNsatz}
+use Rattle.alg_terms.specs.declared.goals.Use.{Use}
+use Rattle.alg_terms.specs.declared.term.Term.{Term, more_of-Term, Var, Int, Neg', Add', Sub', Mul', Div', Pow', Hom'}
+use Rattle.alg_terms.specs.GoalRules.{IsEquation, IsHyp, IsUse, IsNsatz, IsByField, MayBeBy, IsGoal}
+use Rattle.alg_terms.specs.Kinds.{IsDomain, IsField}
+use Rattle.alg_terms.specs.Members.{kind_of, source_of, target_of, hyp_at, no_hyp, no_hom, no_var}
+use Rattle.alg_terms.specs.Nodes.{fold_term, EachNode}
+use Rattle.alg_terms.specs.Sorts.{own_sort, EachNodeAt, Leads, hyp_sort}
+use Rattle.alg_terms.specs.TermRules.{IsInRange, HasFieldQuotients, DividesInFields}
+use Rattle.alg_terms.specs.Valid.{IsValid}
+use Rattle.alg_typing.proofs.Growing.{Grows, kind_same, source_same, target_same, field_same, field_targets, agree_same}
+use Rattle.alg_typing.proofs.GrowingTerms.{or_same, own_same, term_same}
+
+-- an own sort that is there is one of the file
+abbrev SortInRange : File → Option ℕ → Type 0
+SortInRange file sort = IfSome sort (λ s. s < length file.sorts)
+
+or_in_range : (file : File) (a b : Option ℕ) → SortInRange file a → SortInRange file b →
+    SortInRange file (option_or a b)
+or_in_range file None b h k = k
+or_in_range file (Some s) b h k = h
+
+module _ (file : File) (valid : IsValid file) where
+  pub own_in_range : (t : Term) → EachNode (IsInRange file) t → SortInRange file (own_sort file t)
+  unfolding fold_term EachNode
+  own_in_range (Var k) r = valid.vars k no_var r
+  own_in_range (Int n) r = tt
+  own_in_range (Neg' _ (more_of-Term t _)) r = own_in_range t r.1
+  own_in_range (Add' _ (more_of-Term t _) _ (more_of-Term u _)) r =
+      or_in_range file (own_sort file t) (own_sort file u) (own_in_range t r.1) (own_in_range u r.2)
+  own_in_range (Sub' _ (more_of-Term t _) _ (more_of-Term u _)) r =
+      or_in_range file (own_sort file t) (own_sort file u) (own_in_range t r.1) (own_in_range u r.2)
+  own_in_range (Mul' _ (more_of-Term t _) _ (more_of-Term u _)) r =
+      or_in_range file (own_sort file t) (own_sort file u) (own_in_range t r.1) (own_in_range u r.2)
+  own_in_range (Div' _ (more_of-Term t _) _ (more_of-Term u _)) r =
+      or_in_range file (own_sort file t) (own_sort file u) (own_in_range t r.1) (own_in_range u r.2)
+  own_in_range (Pow' _ (more_of-Term t _) n) r = own_in_range t r.1
+  own_in_range (Hom' f _ (more_of-Term t _)) r = (valid.homs f no_hom r.0).target
+
+  -- the sort of an equation is one of the file
+  pub equation_in_range : (e : Equation) → IsEquation file e → e.sort < length file.sorts
+  equation_in_range e h =
+      let both : SortInRange file (option_or (own_sort file e.left) (own_sort file e.right)) =
+      or_in_range file (own_sort file e.left) (own_sort file e.right) (own_in_range e.left h.left.indices)
+      (own_in_range e.right h.right.indices) in
+      subst (SortInRange file) h.sort both
+
+module _ (old new : File) (grows : Grows old new) (valid : IsValid old) where
+  pub equation_same : (e : Equation) → IsEquation old e → IsEquation new e
+  equation_same e h =
+      let left = own_same old new grows e.left h.left.indices in
+      let right = own_same old new grows e.right h.right.indices in
+      record {
+        left = term_same old new grows e.left h.left;
+        right = term_same old new grows e.right h.right;
+        sides = agree_same _ _ _ _ left right h.sides;
+        sort = or_same _ _ _ _ left right ∙ h.sort;
+      }
+
+  pub hyp_same : (hyp : Hyp) → IsHyp old hyp → IsHyp new hyp
+  hyp_same hyp h = record { equation = equation_same hyp.equation h.equation; divides_nowhere = h.divides_nowhere }
+
+  -- quotients of fields are so still
+  quotients : (t : Term) (s : ℕ) (above : List ℕ) → s < length old.sorts → EachNode (IsInRange old) t →
+      All (λ f. f < length old.homs) above → EachNodeAt old (DividesInFields old) s above t →
+      EachNodeAt new (DividesInFields new) s above t
+  unfolding EachNode EachNodeAt
+  quotients (Var k) s above low r up h = tt
+  quotients (Int n) s above low r up h = tt
+  quotients (Neg' _ (more_of-Term t _)) s above low r up h = (tt, quotients t s above low r.1 up h.1)
+  quotients (Add' _ (more_of-Term t _) _ (more_of-Term u _)) s above low r up h =
+      (tt, quotients t s above low r.1 up h.1, quotients u s above low r.2 up h.2)
+  quotients (Sub' _ (more_of-Term t _) _ (more_of-Term u _)) s above low r up h =
+      (tt, quotients t s above low r.1 up h.1, quotients u s above low r.2 up h.2)
+  quotients (Mul' _ (more_of-Term t _) _ (more_of-Term u _)) s above low r up h =
+      (tt, quotients t s above low r.1 up h.1, quotients u s above low r.2 up h.2)
+  quotients (Div' _ (more_of-Term t _) _ (more_of-Term u _)) s above low r up h = (
+    (field_same old new grows s low h.0.0, field_targets old new grows valid.homs above up h.0.1),
+    quotients t s above low r.1 up h.1,
+    quotients u s above low r.2 up h.2,
+  )
+  quotients (Pow' _ (more_of-Term t _) n) s above low r up h = (tt, quotients t s above low r.1 up h.1)
+  quotients (Hom' f _ (more_of-Term t _)) s above low r up h =
+      let below = quotients t (source_of old f) (f ∷ above) (valid.homs f no_hom r.0).source r.1
+      (All-cons (λ g. g < length old.homs) f above r.0 up) h.1 in
+      let P : ℕ → Type 0 = λ source. EachNodeAt new (DividesInFields new) source (f ∷ above) t in
+      (tt, subst P (sym (source_same old new grows f r.0)) below)
+
+  field_quotients : (t : Term) (s : ℕ) → s < length old.sorts → EachNode (IsInRange old) t → HasFieldQuotients old s t →
+      HasFieldQuotients new s t
+  field_quotients t s low r h = quotients t s [] low r (All-nil (λ f. f < length old.homs)) h
+
+  -- a path leads where it led
+  leads_same : (path : List ℕ) (from to : ℕ) → All (λ f. f < length old.homs) path → Leads old path from to →
+      Leads new path from to
+  leads_same [] from to r h = h
+  leads_same (f ∷ path) from to r h =
+      let here : f < length old.homs = All-head (λ g. g < length old.homs) f path r in
+      let later = leads_same path from (source_of old f) (All-tail (λ g. g < length old.homs) f path r) h.1 in
+      (target_same old new grows f here ∙ h.0, subst (Leads new path from) (sym (source_same old new grows f here)) later)
+
+  use_same : (s : ℕ) (used : Use) → IsUse old s used → IsUse new s used
+  use_same s used h =
+      let there : hyp_at new used.hyp ≡ hyp_at old used.hyp = grows.hyps used.hyp h.hyp in
+      let sort : hyp_sort new used ≡ hyp_sort old used = ap (λ hyp. hyp.equation.sort) there in
+      let low : hyp_sort old used < length old.sorts =
+      equation_in_range old valid (hyp_at old used.hyp).equation (valid.hyps used.hyp no_hyp h.hyp).equation in
+      record {
+        hyp = omega (arith, h.hyp, grows.more_hyps);
+        path = All-weaker (λ f. f < length old.homs) (λ f. f < length new.homs) (λ f r. omega (arith, grows.more_homs))
+            used.path h.path;
+        sorts = subst (λ from. Leads new used.path from s) (sym sort) (leads_same used.path _ s h.path h.sorts);
+        nonzero = λ unequal some.
+            subst (λ at. IsField (kind_of new at)) (sym sort)
+            (field_same old new grows (hyp_sort old used) low (h.nonzero (sym (ap (λ hyp. hyp.nonzero) there) ∙ unequal)
+            some));
+      }
+
+  -- what a method asks it asks still
+  method_same : (e : Equation) (method : Method) → IsEquation old e → MayBeBy old e method → MayBeBy new e method
+  method_same e ByRing rules h = h
+  method_same e ByField rules h =
+      let low = equation_in_range old valid e rules in
+      record {
+        field = field_same old new grows e.sort low h.field;
+        left = field_quotients e.left e.sort low rules.left.indices h.left;
+        right = field_quotients e.right e.sort low rules.right.indices h.right;
+      }
+  method_same e (ByNsatz uses power limit) rules h = record {
+    domain = subst IsDomain (sym (kind_same old new grows e.sort (equation_in_range old valid e rules))) h.domain;
+    divides_nowhere = h.divides_nowhere;
+    each_use = All-weaker (IsUse old e.sort) (IsUse new e.sort) (use_same e.sort) uses h.each_use;
+    few_uses = h.few_uses;
+    power_low = h.power_low;
+    power_high = h.power_high;
+    limit_high = h.limit_high;
+  }
+
+  pub goal_same : (goal : Goal) → IsGoal old goal → IsGoal new goal
+  goal_same goal h = record {
+    equation = equation_same goal.equation h.equation;
+    method = method_same goal.equation goal.method h.equation h.method;
+  }

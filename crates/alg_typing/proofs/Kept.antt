@@ -1,0 +1,21 @@
+-- What the file so far keeps: that it is valid, and that the table is one of its names.
+use Rattle.std.proofs.Common.{◌≡◌, ℕ, List, ◌++◌, length, take, sym, ◌∙◌, ap, subst}
+use Rattle.std.proofs.Math.Seq.{take-append_seam}
+use Rattle.alg_terms.specs.declared.file.File.{File}
+use Rattle.alg_terms.specs.Valid.{IsValid}
+use Rattle.alg_typing.specs.Table.{Table, IsTableOf}
+
+-- an equal file with an equal table
+pub kept : (file other : File) (table same : Table) → other ≡ file → same ≡ table → IsTableOf file table → IsValid file →
+    IsTableOf other same × IsValid other
+kept file other table same e t is valid = (
+  λ name. ap (λ u. Rattle.alg_typing.specs.Table.find u name) t ∙ is name
+  ∙ sym (ap (λ f. Rattle.alg_typing.specs.Names.declared_as f name) e),
+  subst IsValid (sym e) valid
+)
+
+-- a table from which new entries are taken again
+pub taken_back : (table more last entries : Table) (known : ℕ) → known ≡ length table → more ≡ table ++ entries →
+    last ≡ take known more → last ≡ table
+taken_back table more last entries known is_known is_more is_last =
+    is_last ∙ ap (take known) is_more ∙ ap (λ n. take n (table ++ entries)) is_known ∙ take-append_seam table entries

@@ -1,0 +1,123 @@
+-- What is without fault of sorts has small exponents and options, and the own sorts of terms that were built.
+use Rattle.std.proofs.Common.{◌≡◌, ◌≤◌, ◌<◌, ◌^◌, ℕ, Bool, true, false, ◌||◌, nat_lt, List, [], ◌∷◌, ◌++◌, refl, sym, ◌∙◌, ap, All, Option, None, Some, arith, IfSome}
+use Rattle.std.specs.Int.RustNames.{unsigned_abs}
+use Rattle.std.specs.Option.{option_or}
+use Rattle.std.proofs.lemmas.Bool.Decides.{nat_tests}
+use Rattle.std.proofs.lemmas.List.Elements.{All-append, All-cons, All-nil}
+use Rattle.alg_terms.proofs.Built.{fold_term-Var, fold_term-Int, fold_term-Neg, fold_term-Add, fold_term-Sub, fold_term-Mul, fold_term-Div, fold_term-Pow, fold_term-Hom}
+use Rattle.alg_terms.specs.declared.file.File.{File}
+use Rattle.alg_terms.specs.declared.limits.TheConstants.{MAX_EXPONENT, MAX_POWER, MAX_LIMIT}
+use Rattle.alg_terms.specs.Nodes.{fold_term}
+use Rattle.alg_terms.specs.Sorts.{node_sort, own_sort, equation_sort}
+use Rattle.alg_tokens.specs.declared.token.Refusal.{Refusal}
+use Rattle.alg_reader.specs.declared.raw.RawEquation.{RawEquation}
+use Rattle.alg_reader.specs.declared.raw.RawMethod.{RawMethod}
+use Rattle.alg_reader.specs.declared.raw.RawMethod.TheVariants as methods
+use Rattle.alg_reader.specs.declared.raw.RawNode.{RawNode, more_of-RawTerm, Var, Int, Neg', Add', Sub', Mul', Div', Pow', Hom'}
+use Rattle.alg_reader.specs.declared.raw.RawNumber.{RawNumber}
+use Rattle.alg_reader.specs.declared.raw.RawTerm.{RawTerm}
+use Rattle.alg_reader.specs.RawTerms.{fold_under, fold_raw, exponents_in, exponents_of_node}
+use Rattle.alg_reader.specs.WellRead.{IsWellEquation, IsWellTerm}
+use Rattle.alg_typing.specs.Resolved.{node_term, term_of, number_at}
+use Rattle.alg_typing.specs.SortFaults.{sorted, node_sorted, exponent, option_range, equation_sorts, method_sorts, sort_of_sides}
+use Rattle.alg_typing.specs.TermsOf.{IsExponent, IsSmallTermOf, HasSmallOptions}
+use Rattle.alg_typing.proofs.RawParts.{own_and_parts}
+use Rattle.alg_typing.proofs.VarTables.{both_none, not_there}
+
+-- a numeral without the fault of exponents
+small_exponent : (n : RawNumber) → exponent n ≡ [] → IsExponent n
+small_exponent n h =
+    let e = not_there (nat_lt MAX_EXPONENT (unsigned_abs n.value)) 12 n.at h in
+    grind (arith, nat_tests)
+
+module _ (file : File) (text : List ℕ) (may : Bool) where
+  -- the exponents of a node without faults
+  exponents_under : (head : ℕ) (n : RawNode) (final : Option ℕ) (in_fields : Bool) →
+      (fold_under (node_sorted file text may) head n).faults final in_fields ≡ [] →
+      All IsExponent (fold_under (own_and_parts exponents_of_node) head n)
+  unfolding fold_under
+  exponents_under head (Var name) final in_fields h = All-nil IsExponent
+  exponents_under head (Int n) final in_fields h = All-nil IsExponent
+  exponents_under head (Neg' _ (more_of-RawTerm k t _)) final in_fields h = exponents_under k t final in_fields h
+  exponents_under head (Add' _ (more_of-RawTerm k t _) _ (more_of-RawTerm l u _)) final in_fields h =
+      let two = both_none _ ((fold_under (node_sorted file text may) l u).faults final in_fields) h in
+      let one = both_none _ ((fold_under (node_sorted file text may) k t).faults final in_fields) two.0 in
+      All-append IsExponent _ _ (exponents_under k t final in_fields one.1) (exponents_under l u final in_fields two.1)
+  exponents_under head (Sub' _ (more_of-RawTerm k t _) _ (more_of-RawTerm l u _)) final in_fields h =
+      let two = both_none _ ((fold_under (node_sorted file text may) l u).faults final in_fields) h in
+      let one = both_none _ ((fold_under (node_sorted file text may) k t).faults final in_fields) two.0 in
+      All-append IsExponent _ _ (exponents_under k t final in_fields one.1) (exponents_under l u final in_fields two.1)
+  exponents_under head (Mul' _ (more_of-RawTerm k t _) _ (more_of-RawTerm l u _)) final in_fields h =
+      let two = both_none _ ((fold_under (node_sorted file text may) l u).faults final in_fields) h in
+      let one = both_none _ ((fold_under (node_sorted file text may) k t).faults final in_fields) two.0 in
+      All-append IsExponent _ _ (exponents_under k t final in_fields one.1) (exponents_under l u final in_fields two.1)
+  exponents_under head (Div' _ (more_of-RawTerm k t _) _ (more_of-RawTerm l u _)) final in_fields h =
+      let all = both_none _ _ h in
+      let two = both_none _ ((fold_under (node_sorted file text may) l u).faults final in_fields) all.1 in
+      let one = both_none _ ((fold_under (node_sorted file text may) k t).faults final in_fields) two.0 in
+      All-append IsExponent _ _ (exponents_under k t final in_fields one.1) (exponents_under l u final in_fields two.1)
+  exponents_under head (Pow' _ (more_of-RawTerm k t _) n) final in_fields h =
+      let parts = both_none (exponent n) _ h in
+      All-cons IsExponent n _ (small_exponent n parts.0) (exponents_under k t final in_fields parts.1)
+  exponents_under head (Hom' name _ (more_of-RawTerm k t _)) final in_fields h =
+      let parts = both_none _ _ h in exponents_under k t _ _ parts.1
+
+  -- a term without faults of its sorts
+  pub small_term : (t : RawTerm) (final : Option ℕ) (in_fields : Bool) → IsWellTerm text t →
+      (sorted file text may t).faults final in_fields ≡ [] → IsSmallTermOf text t
+  small_term t final in_fields well h =
+      record { names = well.names; exponents = exponents_under t.head t.node final in_fields h }
+
+  -- the sides of an equation without faults of its sorts
+  pub small_sides : (e : RawEquation) → IsWellEquation text e → equation_sorts file text may e ≡ [] →
+      IsSmallTermOf text e.left × IsSmallTermOf text e.right
+  small_sides e well h =
+      let l = sorted file text may e.left in
+      let r = sorted file text may e.right in
+      let final = option_or l.own r.own in
+      let three = both_none _ _ h in
+      let two = both_none _ _ three.0 in
+      let one = both_none (l.faults final true) (r.faults final true) two.0 in
+      (small_term e.left final true well.left one.0, small_term e.right final true well.right one.1)
+
+module _ (file : File) (text : List ℕ) where
+  -- the own sort of a term that was built is that of the term that was read
+  own-under : (head : ℕ) (n : RawNode) → fold_term (node_sort file) (fold_under (node_term file text) head n)
+      ≡ (fold_under (node_sorted file text false) head n).own
+  unfolding fold_under
+  own-under head (Var name) = fold_term-Var (node_sort file) (number_at file text name)
+  own-under head (Int n) = fold_term-Int (node_sort file) n
+  own-under head (Neg' _ (more_of-RawTerm k t _)) = fold_term-Neg (node_sort file) _ ∙ own-under k t
+  own-under head (Add' _ (more_of-RawTerm k t _) _ (more_of-RawTerm l u _)) =
+      fold_term-Add (node_sort file) _ _ ∙ (λ i. option_or (own-under k t i) (own-under l u i))
+  own-under head (Sub' _ (more_of-RawTerm k t _) _ (more_of-RawTerm l u _)) =
+      fold_term-Sub (node_sort file) _ _ ∙ (λ i. option_or (own-under k t i) (own-under l u i))
+  own-under head (Mul' _ (more_of-RawTerm k t _) _ (more_of-RawTerm l u _)) =
+      fold_term-Mul (node_sort file) _ _ ∙ (λ i. option_or (own-under k t i) (own-under l u i))
+  own-under head (Div' _ (more_of-RawTerm k t _) _ (more_of-RawTerm l u _)) =
+      fold_term-Div (node_sort file) _ _ ∙ (λ i. option_or (own-under k t i) (own-under l u i))
+  own-under head (Pow' _ (more_of-RawTerm k t _) n) = fold_term-Pow (node_sort file) _ _ ∙ own-under k t
+  own-under head (Hom' name _ (more_of-RawTerm k t _)) = fold_term-Hom (node_sort file) (number_at file text name) _
+
+  pub equation_sort-sides : (e : RawEquation) →
+      equation_sort file (term_of file text e.left) (term_of file text e.right) ≡ sort_of_sides file text e
+  equation_sort-sides e =
+      λ i. option_or (own-under e.left.head e.left.node i) (own-under e.right.head e.right.node i)
+
+-- an option's numeral without fault
+small_option : (low high : ℕ) (number : Option RawNumber) → high < 2 ^ 32 → option_range low high number ≡ [] →
+    IfSome number (λ n. unsigned_abs n.value < 2 ^ 32)
+small_option low high None bound h = tt
+small_option low high (Some n) bound h =
+    let e = not_there (nat_lt (unsigned_abs n.value) low || nat_lt high (unsigned_abs n.value)) 16 n.at h in
+    grind (arith, nat_tests)
+
+-- the options of a method without fault
+pub small_options : (file : File) (text : List ℕ) (final : Option ℕ) (at : ℕ) (method : RawMethod) →
+    method_sorts file text final at method ≡ [] → HasSmallOptions method
+small_options file text final at methods.Ring h = tt
+small_options file text final at methods.Field h = tt
+small_options file text final at (methods.Nsatz uses power limit) h =
+    let two = both_none _ (option_range 0 MAX_LIMIT limit) h in
+    let one = both_none _ (option_range 1 MAX_POWER power) two.0 in
+    (small_option 1 MAX_POWER power (omega arith) one.1, small_option 0 MAX_LIMIT limit (omega arith) two.1)

@@ -1,0 +1,103 @@
+-- A term whose sorts have no faults keeps the rules of literals, exponents and sorts once it is resolved.
+use Rattle.std.proofs.Common.{◌≡◌, ◌<◌, ◌≤◌, ℕ, ℤ, pos, Bool, true, false, List, [], ◌∷◌, ◌++◌, ◌⊎◌, inl, inr, length, Option, None, Some, refl, sym, ap, ◌∙◌, subst, arith}
+use Rattle.std.specs.Prelude.{All, not, ◌&&◌, ◌||◌, ◌≤ℤ◌, nat_lt}
+use Rattle.std.specs.Int.RustNames.{unsigned_abs}
+use Rattle.std.specs.List.{AllByRecursion}
+use Rattle.std.proofs.lemmas.Bool.Decides.{nat_tests}
+use Rattle.alg_terms.specs.declared.file.File.{File}
+use Rattle.alg_terms.specs.declared.limits.TheConstants.{MAX_LITERAL, MAX_EXPONENT}
+use Rattle.alg_terms.specs.declared.term.Term.{Term}
+use Rattle.alg_terms.specs.Members.{source_of}
+use Rattle.alg_terms.specs.Nodes.{EachNode}
+use Rattle.alg_terms.specs.Sorts.{own_sort, Agree, EachNodeAt}
+use Rattle.alg_terms.specs.TermRules.{HasLiteral, HasExponent, HasAgreeingParts, HasFittingArgument}
+use Rattle.alg_reader.specs.declared.raw.RawNode.{RawNode, more_of-RawTerm, Var, Int, Neg', Add', Sub', Mul', Div', Pow', Hom'}
+use Rattle.alg_reader.specs.declared.raw.RawNumber.{RawNumber}
+use Rattle.alg_reader.specs.RawTerms.{fold_under, of_parts, literals_of_node}
+use Rattle.alg_typing.specs.Resolved.{number_at}
+use Rattle.alg_typing.specs.SortFaults.{differ, exponent}
+use Rattle.alg_typing.proofs.NumbersInRange.{parts_empty, no_fault}
+use Rattle.alg_typing.proofs.FreshNames.{recursion_left, recursion_right}
+use Rattle.alg_typing.proofs.Resolving.{agree_if, resolved, sorted_under, own_resolved}
+
+-- an exponent without fault is at most the greatest
+exponent_in_range : (n : RawNumber) → exponent n ≡ [] → unsigned_abs n.value ≤ MAX_EXPONENT
+exponent_in_range n h =
+    let low : nat_lt MAX_EXPONENT (unsigned_abs n.value) ≡ false = no_fault _ 12 n.at h in grind (arith, nat_tests)
+
+module _ (file : File) (text : List ℕ) where
+  -- literals in range stay so
+  pub literals : (head : ℕ) (node : RawNode) → AllByRecursion (λ n. (pos 0 ≤ℤ n) × (n ≤ℤ MAX_LITERAL))
+      (fold_under (λ head node. literals_of_node node ++ of_parts node) head node) → EachNode HasLiteral (resolved file text head node)
+  unfolding fold_under EachNode
+      Rattle.alg_terms.specs.declared.term.Term.TheBlock.hidden-the_row-Term-0 denote.Hole.Carrier.hidden
+  literals head (Var name) h = tt
+  literals head (Int n) h = h.0
+  literals head (Neg' _ (more_of-RawTerm k t _)) h = (tt, literals k t h)
+  literals head (Add' _ (more_of-RawTerm k t _) _ (more_of-RawTerm l u _)) h =
+      (tt, literals k t (recursion_left _ _ _ h), literals l u (recursion_right _ _ _ h))
+  literals head (Sub' _ (more_of-RawTerm k t _) _ (more_of-RawTerm l u _)) h =
+      (tt, literals k t (recursion_left _ _ _ h), literals l u (recursion_right _ _ _ h))
+  literals head (Mul' _ (more_of-RawTerm k t _) _ (more_of-RawTerm l u _)) h =
+      (tt, literals k t (recursion_left _ _ _ h), literals l u (recursion_right _ _ _ h))
+  literals head (Div' _ (more_of-RawTerm k t _) _ (more_of-RawTerm l u _)) h =
+      (tt, literals k t (recursion_left _ _ _ h), literals l u (recursion_right _ _ _ h))
+  literals head (Pow' _ (more_of-RawTerm k t _) n) h = (tt, literals k t h)
+  literals head (Hom' name _ (more_of-RawTerm k t _)) h = (tt, literals k t h)
+
+  -- own sorts of two nodes that don't differ agree once they are resolved
+  pub agree : (b : Bool) (k : ℕ) (t : RawNode) (l : ℕ) (u : RawNode) →
+      differ (sorted_under file text b k t).own (sorted_under file text b l u).own ≡ false →
+      Agree (own_sort file (resolved file text k t)) (own_sort file (resolved file text l u))
+  agree b k t l u h =
+      subst (λ s. Agree s (own_sort file (resolved file text l u))) (own_resolved file text b k t)
+      (subst (λ s. Agree (sorted_under file text b k t).own s) (own_resolved file text b l u) (agree_if _ _ h))
+
+  -- the rules of exponents and sorts
+  abbrev pub KeepsRules : Term → Type 0
+  KeepsRules t = EachNode HasExponent t × EachNode (HasAgreeingParts file) t × EachNode (HasFittingArgument file) t
+
+  pub rules_kept : (b : Bool) (head : ℕ) (node : RawNode) (final : Option ℕ) (in_fields : Bool) →
+      (sorted_under file text b head node).faults final in_fields ≡ [] → KeepsRules (resolved file text head node)
+  unfolding fold_under EachNode
+      Rattle.alg_terms.specs.declared.term.Term.TheBlock.hidden-the_row-Term-0 denote.Hole.Carrier.hidden
+  rules_kept b head (Var name) final in_fields h = (tt, tt, tt)
+  rules_kept b head (Int n) final in_fields h = (tt, tt, tt)
+  rules_kept b head (Neg' _ (more_of-RawTerm k t _)) final in_fields h =
+      let (e, p, a) = rules_kept b k t final in_fields h in ((tt, e), (tt, p), (tt, a))
+  rules_kept b head (Add' _ (more_of-RawTerm k t _) _ (more_of-RawTerm l u _)) final in_fields h =
+      let (front, right) = parts_empty _ _ h in
+      let (sorts, left) = parts_empty _ _ front in
+      let (e, p, a) = rules_kept b k t final in_fields left in
+      let (f, q, c) = rules_kept b l u final in_fields right in
+      ((tt, e, f), (agree b k t l u (no_fault _ 9 head sorts), p, q), (tt, a, c))
+  rules_kept b head (Sub' _ (more_of-RawTerm k t _) _ (more_of-RawTerm l u _)) final in_fields h =
+      let (front, right) = parts_empty _ _ h in
+      let (sorts, left) = parts_empty _ _ front in
+      let (e, p, a) = rules_kept b k t final in_fields left in
+      let (f, q, c) = rules_kept b l u final in_fields right in
+      ((tt, e, f), (agree b k t l u (no_fault _ 9 head sorts), p, q), (tt, a, c))
+  rules_kept b head (Mul' _ (more_of-RawTerm k t _) _ (more_of-RawTerm l u _)) final in_fields h =
+      let (front, right) = parts_empty _ _ h in
+      let (sorts, left) = parts_empty _ _ front in
+      let (e, p, a) = rules_kept b k t final in_fields left in
+      let (f, q, c) = rules_kept b l u final in_fields right in
+      ((tt, e, f), (agree b k t l u (no_fault _ 9 head sorts), p, q), (tt, a, c))
+  rules_kept b head (Div' _ (more_of-RawTerm k t _) _ (more_of-RawTerm l u _)) final in_fields h =
+      let (here, rest) = parts_empty _ _ h in
+      let (front, right) = parts_empty _ _ rest in
+      let (sorts, left) = parts_empty _ _ front in
+      let (e, p, a) = rules_kept b k t final in_fields left in
+      let (f, q, c) = rules_kept b l u final in_fields right in
+      ((tt, e, f), (agree b k t l u (no_fault _ 9 head sorts), p, q), (tt, a, c))
+  rules_kept b head (Pow' _ (more_of-RawTerm k t _) n) final in_fields h =
+      let (here, rest) = parts_empty _ _ h in
+      let (e, p, a) = rules_kept b k t final in_fields rest in
+      ((exponent_in_range n here, e), (tt, p), (tt, a))
+  rules_kept b head (Hom' name _ (more_of-RawTerm k t _)) final in_fields h =
+      let f = number_at file text name in
+      let (here, rest) = parts_empty _ _ h in
+      let (e, p, a) = rules_kept b k t (Some (source_of file f)) _ rest in
+      let fits : Agree (own_sort file (resolved file text k t)) (Some (source_of file f)) =
+      subst (λ s. Agree s (Some (source_of file f))) (own_resolved file text b k t) (agree_if _ _ (no_fault _ 9 head here)) in
+      ((tt, e), (tt, p), (fits, a))

@@ -1,0 +1,13 @@
+pub mod Names
+pub mod Faults
+pub mod NameFaults
+pub mod Resolved
+pub mod SortFaults
+pub mod Table
+pub mod Additions
+pub mod Checks
+pub mod TermsOf
+pub mod Wanted
+pub mod Reading
+pub mod Room
+pub mod Ends

@@ -1,0 +1,23 @@
+//! Files: names resolved, sorts checked, and the first fault of a text that is no file.
+//!
+//! The words of the contracts are in `specs/Reading.antt`, which names the file or the first fault
+//! of a text, over the faults of `specs/NameFaults.antt` and `specs/SortFaults.antt`.
+#![tactic(auto)]
+
+mod adding;
+mod declaration;
+mod faults;
+mod known;
+mod lists;
+mod name_faults;
+mod names;
+mod reading;
+mod scope;
+mod sort_faults;
+mod sorts;
+mod terms;
+
+pub use declaration::Declaration;
+pub use alg_reader::FileEnd;
+pub use known::Declared;
+pub use reading::read_file;

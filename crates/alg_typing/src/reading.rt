@@ -1,0 +1,50 @@
+//! The file that a text is, or its first fault.
+
+ghost use Rattle.std.specs.Prelude.{◌≡◌, ◌≤◌, length, All, Ok, Err, IfOk, IfErr};
+ghost use Rattle.alg_terms.specs.Valid.{IsValid};
+ghost use Rattle.alg_typing.specs.Ends.{Tells, IsByRing};
+ghost use Rattle.alg_typing.specs.Reading.{IsReadingOf, Reads, no_statements};
+
+use crate::Declared;
+use alg_reader::{FileEnd, Place, RawKind, read_statement};
+use alg_terms::File;
+use alg_tokens::Refusal;
+use std::alloc::Global;
+use std::str;
+
+/// The file that these bytes are, or their first fault: that they are no UTF-8 comes before all
+/// faults of statements, and an earlier statement's fault before a later one's. Linear in the bytes.
+pub fn read_file(alloc: Global, bytes: &[u8]) -> Result<File, FileEnd>
+    requires { length bytes.now ≤ 16777216 }
+    ensures ok { IfOk result (λ file. IsReadingOf bytes.now (Ok file) × IsValid file) }
+    ensures refused { IfErr result (λ end. Tells end (λ fault. IsReadingOf bytes.now (Err fault))) }
+    ensures by_ring { IfOk result (λ file. All IsByRing file.goals) }
+{
+    match str::from_utf8(bytes) {
+        Ok(text) => read_text(alloc, text),
+        Err(error) => Err(FileEnd::Refused(Refusal {
+            code: 1,
+            at: error.valid_up_to() as u32,
+        })),
+    }
+}
+
+/// The file that a text is, or its first fault.
+fn read_text(alloc: Global, text: &str) -> Result<File, FileEnd>
+    requires { length text.now ≤ 16777216 }
+    ensures ok { IfOk result (λ file. Reads text.now 0 no_statements (Ok file) × IsValid file) }
+    ensures refused { IfErr result
+        (λ end. Tells end (λ fault. Reads text.now 0 no_statements (Err fault))) }
+    ensures by_ring { IfOk result (λ file. All IsByRing file.goals) }
+{
+    let mut declared = Declared::new(alloc);
+    let mut at = 0;
+    'statements: loop {
+        let raw = read_statement(alloc, text, at, Place::Plain)?;
+        if let RawKind::End = raw.kind {
+            return Ok(declared.into_file());
+        }
+        at = raw.stop;
+        declared.add(alloc, text, raw)?;
+    }
+}
