@@ -40,7 +40,7 @@ byte_longest b text bytes more is (inr (line, comment, _)) e =
     absurd (grind (arith, nat_tests))
 
 -- a blank byte is the first piece
-byte_first : (b : ℕ) (text : List ℕ) → is_blank b ≡ true → IsFirst (Blank (b ∷ [])) (b ∷ text) text
+pub byte_first : (b : ℕ) (text : List ℕ) → is_blank b ≡ true → IsFirst (Blank (b ∷ [])) (b ∷ text) text
 byte_first b text h =
     let low : b ≤ 35 = grind (arith, nat_tests) in
     record {

@@ -20,7 +20,7 @@ use Rattle.alg_tokens.proofs.Leads.{leads, sign_is_no_digit}
 digit_test : (b : ℕ) → is_ascii_digit b ≡ true → IsAsciiDigit b
 digit_test b h = (grind (arith, nat_tests), grind (arith, nat_tests))
 
-digit_passes : (b : ℕ) → IsAsciiDigit b → is_ascii_digit b ≡ true
+pub digit_passes : (b : ℕ) → IsAsciiDigit b → is_ascii_digit b ≡ true
 digit_passes b h = let low = h.0 in let high = h.1 in grind (arith, nat_tests)
 
 pub digits_within : (bytes more : List ℕ) → AllByRecursion IsAsciiDigit bytes
@@ -81,7 +81,7 @@ number_first text n value run some within same =
 
 -- ---- names
 
-starts_continues : (c : ℕ) → starts_name c ≡ true → continues_name c ≡ true
+pub starts_continues : (c : ℕ) → starts_name c ≡ true → continues_name c ≡ true
 starts_continues c h =
     let next = is_xid_start-is_xid_continue c in
     let low = is_xid_continue-ascii 95 (lit< tt) in
@@ -90,7 +90,7 @@ starts_continues c h =
       | false ↦ λ e x. grind (arith, nat_tests, next x)
     ] refl h
 
-none_pass : (chars : List ℕ) → AllContinue chars → NonePass (λ c. not (continues_name c)) chars
+pub none_pass : (chars : List ℕ) → AllContinue chars → NonePass (λ c. not (continues_name c)) chars
 none_pass [] all = tt
 none_pass (c ∷ chars) all = (ap not all.0, none_pass chars all.1)
 

@@ -1,7 +1,7 @@
 -- What an end without a file tells, and goals by ring.
 use Rattle.alg_terms.specs.declared.goals.Goal.{Goal}
-use Rattle.alg_terms.specs.declared.goals.Method.{Method}
-use Rattle.alg_terms.specs.declared.goals.Method.TheVariants.{ByRing, ByField, ByNsatz}
+use Rattle.std.specs.Prelude.{◌≡◌}
+use Rattle.alg_terms.specs.declared.goals.Method.TheVariants.{ByRing}
 use Rattle.alg_tokens.specs.declared.token.Refusal.{Refusal}
 use Rattle.alg_reader.specs.declared.reading.FileEnd.{FileEnd}
 use Rattle.alg_reader.specs.declared.reading.FileEnd.TheVariants.{Refused, NoMemory}
@@ -11,11 +11,6 @@ abbrev pub Tells : FileEnd → (Refusal → Type 0) → Type 0
 Tells (Refused fault) Holds = Holds fault
 Tells NoMemory Holds = Unit {0}
 
-abbrev pub IsRingMethod : Method → Type 0
-IsRingMethod ByRing = Unit {0}
-IsRingMethod ByField = ⊥
-IsRingMethod (ByNsatz uses power limit) = ⊥
-
 -- the goal is to be decided by ring
 abbrev pub IsByRing : Goal → Type 0
-IsByRing goal = IsRingMethod goal.method
+IsByRing goal = goal.method ≡ ByRing

@@ -35,6 +35,7 @@ impl Scope<'_> {
 impl Declared {
     /// Adds a statement that was read from the text, or tells its first fault, by the names that
     /// are declared so far. Where it fails nothing is changed. Linear in the statement.
+    #[tactic(none)]
     pub fn add(&mut self, alloc: Global, text: &str, raw: Raw) -> Result<(), FileEnd>
         requires size { length text.now ≤ 16777216 }
         requires well_read { (at : ℕ) × IsWellRead text.now at raw }
@@ -46,18 +47,29 @@ impl Declared {
             (λ end. Tells end (λ fault. first_fault self.old text.now raw ≡ Some fault)) }
         ensures err { OnErr result (self.new ≡ self.old) }
     {
+        match self.first_fault(alloc, text, &raw)? {
+            Some(fault) => Err(FileEnd::Refused(fault)),
+            None => Ok(self.extend(alloc, text, &raw)?),
+        }
+    }
+
+    /// The first fault of a statement, by the names that are declared so far. The file is valid.
+    fn first_fault(
+        &self,
+        alloc: Global,
+        text: &str,
+        raw: &Raw,
+    ) -> Result<Option<Refusal>, NoMemory>
+        requires { IsWellKind text.now raw.now.kind }
+        ensures valid { IsValid self.now }
+        ensures fault { IfOk result (λ fault. fault ≡ first_fault self.now text.now raw.now) }
+    {
+        let _file = self.file();
         let scope = Scope {
-            declared: &*self,
+            declared: self,
             text,
         };
-        match scope.first_fault(alloc, &raw)? {
-            Some(fault) => Err(FileEnd::Refused(fault)),
-            None => {
-                let _valid = self.file();
-                self.extend(alloc, text, &raw)?;
-                Ok(())
-            }
-        }
+        scope.first_fault(alloc, raw)
     }
 
     /// Adds a statement without fault. Where there is no memory nothing is changed.
