@@ -1,0 +1,4 @@
+pub mod Answered
+pub mod LaidTerms
+pub mod LaidStatements
+pub mod Writing

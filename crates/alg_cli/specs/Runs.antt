@@ -1,9 +1,11 @@
--- What a run has to write, and what each status says of the bytes written.
-use Rattle.std.specs.Prelude.{◌≡◌, ℕ, ◌<◌, List, [], ◌∷◌, Option, length, map, codes, IfSome, String, string_bytes}
+-- What a run writes, and what its status says of it.
+use Rattle.std.specs.Prelude.{◌≡◌, ℕ, List, [], ◌∷◌, Option, map, codes, IfSome, String, string_bytes}
 use Rattle.std.specs.declared.alloc.Global.{Global}
 use Rattle.alg_outside.specs.Bytes.{Gains, GainsFront, Flushes}
+use Rattle.alg_universe.specs.declared.universe.Universe.{Ghosts}
 use Rattle.alg_cli.specs.declared.status.Status.{Status}
 use Rattle.alg_cli.specs.declared.status.Status.TheVariants.{Done, NotAll, Refused, Usage, ReadFault, WriteFault, NoMemory}
+use Rattle.alg_cli.specs.Replies.{IsReplyTo}
 
 -- the exit status of the program
 abbrev pub code_of : Status → ℕ
@@ -19,30 +21,49 @@ code_of NoMemory = 6
 abbrev pub IsProve : List (String Global) → Type 0
 IsProve words = map string_bytes words ≡ codes "prove" ∷ []
 
--- `prove` reads at most this many bytes
-abbrev pub most_bytes : ℕ
-most_bytes = 1048576
-
--- what is to be written: for other words than `prove` the usage, and for too many bytes that they are refused
-pub record IsReply (words : List (String Global)) (left : Option (List ℕ)) (text : List ℕ) : Type 0 where
-  pub usage : ¬ IsProve words → text ≡ codes "usage\n"
-  pub large : IsProve words → IfSome left (λ bytes. most_bytes < length bytes → text ≡ codes "refused large\n")
-
--- what a status says of a sink that has a text to take: all of it was taken and flushed, or a front of it, or nothing
-abbrev pub Wrote : Status → List ℕ → Option (List ℕ) → Option (List ℕ) → Option ℕ → Option ℕ → Type 0
-Wrote ReadFault text before after flushed flushed' = (after ≡ before) × (flushed' ≡ flushed)
-Wrote NoMemory text before after flushed flushed' = (after ≡ before) × (flushed' ≡ flushed)
-Wrote WriteFault text before after flushed flushed' = GainsFront before after text × (flushed' ≡ flushed)
-Wrote _ text before after flushed flushed' = Gains before after text × Flushes after flushed flushed'
-
--- the statuses of a run that wrote all it had to write
+-- the status of a run that wrote all it had to write
 abbrev pub IsAfterAll : Status → Type 0
 IsAfterAll ReadFault = ⊥
 IsAfterAll WriteFault = ⊥
 IsAfterAll NoMemory = ⊥
 IsAfterAll _ = Unit {0}
 
--- of these, the ones of a run that reads
+-- the status of such a run that reads
 abbrev pub IsEnding : Status → Type 0
 IsEnding Usage = ⊥
 IsEnding status = IsAfterAll status
+
+-- what a run with these words has to write, and the status that it has then: with other words than `prove` the usage,
+-- else the reply to the input, where that is told
+pub record IsReply {E : Type 0} (u : Ghosts E) (words : List (String Global)) (left : Option (List ℕ)) (text : List ℕ)
+    (status : Status) : Type 0 where
+  pub usage : ¬ IsProve words → (text ≡ codes "usage\n") × (status ≡ Usage)
+  pub reply : IsProve words → IfSome left (λ bytes. IsReplyTo u bytes text status)
+  pub ending : IsProve words → IsEnding status
+
+-- what a sink says it took in a run: the bytes before and after, and how many of them are flushed
+pub record Written : Type 0 where
+  pub before : Option (List ℕ)
+  pub after : Option (List ℕ)
+  pub flushed_before : Option ℕ
+  pub flushed_after : Option ℕ
+
+-- nothing was written
+abbrev pub WroteNothing : Written → Type 0
+WroteNothing w = (w.after ≡ w.before) × (w.flushed_after ≡ w.flushed_before)
+
+-- a front of what had to be written was written, perhaps all of it or nothing
+abbrev pub WroteFront : Written → List ℕ → Type 0
+WroteFront w text = GainsFront w.before w.after text × (w.flushed_after ≡ w.flushed_before)
+
+-- all that had to be written was written and flushed
+abbrev pub WroteAll : Written → List ℕ → Type 0
+WroteAll w text = Gains w.before w.after text × Flushes w.after w.flushed_before w.flushed_after
+
+-- what a run wrote, by its status: nothing after a failed reading or want of memory, a front of its text after a
+-- failed writing, and else all of its text, with the status that belongs to it
+abbrev pub Wrote : (List ℕ → Status → Type 0) → Status → Written → Type 0
+Wrote IsText ReadFault w = WroteNothing w
+Wrote IsText NoMemory w = WroteNothing w
+Wrote IsText WriteFault w = (text : List ℕ) × (planned : Status) × IsText text planned × WroteFront w text
+Wrote IsText status w = (text : List ℕ) × IsText text status × WroteAll w text

@@ -1,23 +1,19 @@
-//! The program `alg`: reads a file of rings, variables and goals, answers each goal, and writes the
-//! file back with its answers.
+//! The program `alg`: reads a file of declarations and goals, answers each goal, and writes the file
+//! back with its answers. Nothing stands above this crate: `top::run` is what the program does, and
+//! `specs/Runs.antt` and `specs/Replies.antt` have the words of its contract.
 #![tactic(auto)]
 
-mod deciding;
-mod parser;
-mod printing;
-mod reading;
 pub mod status;
-mod terms;
 #[cfg(test)]
 mod tests;
 pub mod top;
 
 use alg_outside::{StdSink, StdSource};
-use alg_universe::Ints;
+use alg_universe::Rats;
 use std::process::ExitCode;
 use std::{env, io};
 
-/// The words after the program's name: none where one of them is no text.
+/// The words after the program's name.
 fn words_of(rt: &HostRuntime) -> io::Result<Vec<String>> {
     let mut words = Vec::new(rt.alloc());
     for word in env::args(rt)?.skip(1) {
@@ -33,6 +29,6 @@ fn main(rt: HostRuntime) -> ExitCode {
     };
     let mut source = StdSource::new(rt.reader());
     let mut sink = StdSink::new(io::writer(&rt));
-    let status = top::run::<Ints, _, _>(rt.alloc(), words.as_slice(), &mut source, &mut sink);
+    let status = top::run::<Rats, _, _>(rt.alloc(), words.as_slice(), &mut source, &mut sink);
     ExitCode::from(status.code())
 }

@@ -3,167 +3,318 @@
 use crate::status::Status;
 use crate::top::run;
 use alg_outside::{MemSink, MemSource};
-use alg_universe::Ints;
+use alg_universe::Rats;
 use std::alloc::Global;
 use std::test::Fail;
 
-/// A goal over two variables of a ring, the answer under it, and how the run ends.
-struct Row {
+/// A file in canonical form that ends with a goal, the answer below it, and how the run ends.
+struct Answered {
     shows: &'static str,
-    goal: &'static str,
+    file: &'static str,
     answer: &'static str,
     status: Status,
 }
 
-const ROWS: [Row; 9] = [
-    Row {
+const ANSWERED: [Answered; 13] = [
+    Answered {
+        shows: "nothing is a file",
+        file: "",
+        answer: "",
+        status: Status::Done,
+    },
+    Answered {
         shows: "a square is its expansion",
-        goal: "goal (x + y)^2 = x^2 + 2*x*y + y^2 by ring.\n",
+        file: "ring R.\nvar x y : R.\ngoal (x + y)^2 = x^2 + 2*x*y + y^2 by ring.\n",
         answer: "  proved.\n",
         status: Status::Done,
     },
-    Row {
+    Answered {
         shows: "a square without its middle differs there",
-        goal: "goal (x + y)^2 = x^2 + y^2 by ring.\n",
+        file: "ring R.\nvar x y : R.\ngoal (x + y)^2 = x^2 + y^2 by ring.\n",
         answer: "  no at x*y : 2 and 0.\n",
         status: Status::NotAll,
     },
-    Row {
+    Answered {
+        shows: "a morphism keeps sums and products",
+        file: "ring R.\nhom f : R -> R.\nvar x y : R.\ngoal f(x*y + 1) = f(x)*f(y) + 1 by ring.\n",
+        answer: "  proved.\n",
+        status: Status::Done,
+    },
+    Answered {
+        shows: "morphisms do not commute",
+        file: "ring R.\nhom f : R -> R.\nhom g : R -> R.\nvar x y : R.\ngoal f(g(x)) = g(f(x)) by ring.\n",
+        answer: "  no at f(g(x)) : 1 and 0.\n",
+        status: Status::NotAll,
+    },
+    Answered {
         shows: "the norm may be the greatest",
-        goal: "goal x + 170141183460469231731687303715884105726 = x + 170141183460469231731687303715884105726 by ring.\n",
+        file: "ring R.\nvar x y : R.\ngoal x + 170141183460469231731687303715884105726 = x + 170141183460469231731687303715884105726 by ring.\n",
         answer: "  proved.\n",
         status: Status::Done,
     },
-    Row {
-        shows: "one more is out of range",
-        goal: "goal x + 170141183460469231731687303715884105727 = x + 170141183460469231731687303715884105727 by ring.\n",
+    Answered {
+        shows: "a norm of one more is out of range",
+        file: "ring R.\nvar x y : R.\ngoal x + 170141183460469231731687303715884105727 = x + 170141183460469231731687303715884105727 by ring.\n",
         answer: "  range.\n",
         status: Status::NotAll,
     },
-    Row {
+    Answered {
         shows: "a power counts its base's norm, to 2^126",
-        goal: "goal (2*x)^126 = (2*x)^126 by ring.\n",
+        file: "ring R.\nvar x y : R.\ngoal (2*x)^126 = (2*x)^126 by ring.\n",
         answer: "  proved.\n",
         status: Status::Done,
     },
-    Row {
+    Answered {
         shows: "2^127 is out of range",
-        goal: "goal (2*x)^127 = (2*x)^127 by ring.\n",
+        file: "ring R.\nvar x y : R.\ngoal (2*x)^127 = (2*x)^127 by ring.\n",
         answer: "  range.\n",
         status: Status::NotAll,
     },
-    Row {
+    Answered {
         shows: "a difference at the monomial without atoms",
-        goal: "goal x - x + 1 = 0 by ring.\n",
+        file: "ring R.\nvar x y : R.\ngoal x - x + 1 = 0 by ring.\n",
         answer: "  no at 1 : 1 and 0.\n",
         status: Status::NotAll,
     },
-    Row {
+    Answered {
         shows: "degree 1,001 is too great",
-        goal: "goal x^1000*x = 0 by ring.\n",
+        file: "ring R.\nvar x y : R.\ngoal x^1000*x = 0 by ring.\n",
         answer: "  degree.\n",
         status: Status::NotAll,
     },
-    Row {
+    Answered {
         shows: "degree 1,000 is not",
-        goal: "goal x^1000 = x^1000 by ring.\n",
+        file: "ring R.\nvar x y : R.\ngoal x^1000 = x^1000 by ring.\n",
+        answer: "  proved.\n",
+        status: Status::Done,
+    },
+    Answered {
+        shows: "a name may have letters of any script",
+        file: "ring R.\nvar \u{3b1} : R.\ngoal \u{3b1} + \u{3b1} = 2*\u{3b1} by ring.\n",
         answer: "  proved.\n",
         status: Status::Done,
     },
 ];
 
-const HEAD: &[u8] = b"ring R.\nvar x y : R.\n";
+/// An input, what is written, and how the run ends.
+struct Row {
+    shows: &'static str,
+    input: &'static [u8],
+    output: &'static str,
+    status: Status,
+}
+
+const ROWS: [Row; 15] = [
+    Row {
+        shows: "blanks, comments, zeros and needless parentheses are not kept",
+        input: b"# a ring\nring R.var x\ty:R.\r\ngoal ((x)) - (y - 007) = -(x)by ring. # all",
+        output: "ring R.\nvar x y : R.\ngoal x - (y - 7) = -x by ring.\n  no at x : 1 and -1.\n",
+        status: Status::NotAll,
+    },
+    Row {
+        shows: "each goal has its own answer below it",
+        input: b"field F char 0.\nvar u : F.\ngoal u = 0 by ring.\ngoal u*u = u^2 by ring.\nvar v : F.\ngoal v = u by ring.\n",
+        output: "field F char 0.\nvar u : F.\ngoal u = 0 by ring.\n  no at u : 1 and 0.\ngoal u*u = u^2 by ring.\n  proved.\nvar v : F.\ngoal v = u by ring.\n  no at v : 1 and 0.\n",
+        status: Status::NotAll,
+    },
+    Row {
+        shows: "no side has a sort",
+        input: b"ring R.\nvar x : R.\ngoal 1 = 0 by ring.\n",
+        output: "refused 10 at 26\n",
+        status: Status::Refused,
+    },
+    Row {
+        shows: "the input ends inside a statement",
+        input: b"ring R.\nvar x : R",
+        output: "refused 5 at 17\n",
+        status: Status::Refused,
+    },
+    Row {
+        shows: "a name is not declared",
+        input: b"var x : R.\n",
+        output: "refused 7 at 8\n",
+        status: Status::Refused,
+    },
+    Row {
+        shows: "a literal is over the greatest",
+        input: b"ring R.\nvar x : R.\ngoal x = 170141183460469231731687303715884105728 by ring.\n",
+        output: "refused 3 at 28\n",
+        status: Status::Refused,
+    },
+    Row {
+        shows: "a quotient stands in a goal by ring",
+        input: b"field F.\nvar x : F.\ngoal x/x = 1 by ring.\n",
+        output: "refused 13 at 26\n",
+        status: Status::Refused,
+    },
+    Row {
+        shows: "the bytes are no text",
+        input: b"\xff",
+        output: "refused 1 at 0\n",
+        status: Status::Refused,
+    },
+    Row {
+        shows: "a character begins no token",
+        input: b"ring R.\nvar x$ : R.\n",
+        output: "refused 2 at 13\n",
+        status: Status::Refused,
+    },
+    Row {
+        shows: "a name is declared again",
+        input: b"ring R.\nvar x R : R.\n",
+        output: "refused 6 at 14\n",
+        status: Status::Refused,
+    },
+    Row {
+        shows: "a ring stands where a variable is wanted",
+        input: b"ring R.\nvar x : R.\ngoal x = R by ring.\n",
+        output: "refused 8 at 28\n",
+        status: Status::Refused,
+    },
+    Row {
+        shows: "two sorts are added",
+        input: b"ring R.\nring S.\nvar x : R.\nvar y : S.\ngoal x + y = x by ring.\n",
+        output: "refused 9 at 45\n",
+        status: Status::Refused,
+    },
+    Row {
+        shows: "an exponent is over 1,000",
+        input: b"ring R.\nvar x : R.\ngoal x^1001 = x by ring.\n",
+        output: "refused 12 at 26\n",
+        status: Status::Refused,
+    },
+    Row {
+        shows: "hypotheses can't be read yet",
+        input: b"ring R.\nvar x : R.\nhyp H : x = 0.\n",
+        output: "refused 20 at 19\n",
+        status: Status::Refused,
+    },
+    Row {
+        shows: "goals by field can't be read yet",
+        input: b"field F.\nvar x : F.\ngoal x/x = 1 by field.\n",
+        output: "refused 20 at 36\n",
+        status: Status::Refused,
+    },
+];
 
 /// The only word that the program knows.
 fn prove(alloc: Global) -> Result<Vec<String>, Fail> {
     Ok(vec![in alloc; String::from_str(alloc, "prove")?]?)
 }
 
-/// Two pieces after the head.
+/// Two pieces, one after the other.
 fn joined(alloc: Global, first: &str, second: &str) -> Result<Vec<u8>, Fail> {
-    let mut all = Vec::from_slice(alloc, HEAD)?;
-    all.extend_from_slice(first.as_bytes())?;
+    let mut all = Vec::from_slice(alloc, first.as_bytes())?;
     all.extend_from_slice(second.as_bytes())?;
     Ok(all)
 }
 
+/// What `prove` writes for an input, and how it ends.
+fn prove_run(alloc: Global, input: Vec<u8>) -> Result<(Vec<u8>, Status), Fail> {
+    let words = prove(alloc)?;
+    let mut source = MemSource::new(input, 1000, Vec::new(alloc));
+    let mut sink = MemSink::new(alloc, 20_000, 1000, Vec::new(alloc))?;
+    let status = run::<Rats, _, _>(alloc, words.as_slice(), &mut source, &mut sink);
+    Ok((sink.bytes().to_vec(alloc)?, status))
+}
+
 #[test]
 fn each_goal_is_written_back_with_its_answer(rt: HostRuntime) -> Result<(), Fail> {
-    let words = prove(rt.alloc())?;
-    for row in &ROWS {
-        let input = joined(rt.alloc(), row.goal, "")?;
-        let output = joined(rt.alloc(), row.goal, row.answer)?;
-        let mut source = MemSource::new(input, 1000, Vec::new(rt.alloc()));
-        let mut sink = MemSink::new(rt.alloc(), 1000, 1000, Vec::new(rt.alloc()))?;
-        let status = run::<Ints, _, _>(rt.alloc(), words.as_slice(), &mut source, &mut sink);
+    for row in &ANSWERED {
+        let input = joined(rt.alloc(), row.file, "")?;
+        let (output, status) = prove_run(rt.alloc(), input)?;
         let shows = row.shows;
-        assert_eq!(rt; sink.bytes(), output.as_slice(), "{shows}");
+        assert_eq!(rt; output, joined(rt.alloc(), row.file, row.answer)?, "{shows}");
         assert_eq!(rt; status, row.status, "{shows}");
     }
     Ok(())
 }
 
 #[test]
-fn other_inputs_are_refused_at_0(rt: HostRuntime) -> Result<(), Fail> {
-    // Each row: an input, and what is the matter with it.
-    let rows: [(&[u8], &str); 10] = [
-        (b"", "nothing"),
-        (
-            b"ring R.\nvar x : S.\ngoal x = x by ring.\n",
-            "the variables are of no ring that is there",
-        ),
-        (
-            b"ring R.\nvar x x : R.\ngoal x = x by ring.\n",
-            "a name comes twice",
-        ),
-        (
-            b"ring R.\nvar R : R.\ngoal R = R by ring.\n",
-            "a variable has the ring's name",
-        ),
-        (
-            b"ring R.\nvar x : R.\ngoal x = y by ring.\n",
-            "a variable is not declared",
-        ),
-        (
-            b"ring R.\nvar x : R.\ngoal 1 = 1 by ring.\n",
-            "no variable occurs",
-        ),
-        (
-            b"ring R.\nvar x : R.\ngoal x/x = 1 by ring.\n",
-            "a division",
-        ),
-        (
-            b"ring R.\nvar x : R.\ngoal x = x by ring.\n# end\n",
-            "a comment",
-        ),
-        (
-            b"ring R.\nvar x : R.\ngoal x^1001 = x by ring.\n",
-            "an exponent over 1,000",
-        ),
-        (
-            b"ring R.\nvar \xce\xb1 : R.\ngoal \xce\xb1 = \xce\xb1 by ring.\n",
-            "bytes that are not ASCII",
-        ),
-    ];
-    let words = prove(rt.alloc())?;
-    for (input, what) in rows {
-        let mut source = MemSource::new(input.to_vec(rt.alloc())?, 1000, Vec::new(rt.alloc()));
-        let mut sink = MemSink::new(rt.alloc(), 1000, 1000, Vec::new(rt.alloc()))?;
-        let status = run::<Ints, _, _>(rt.alloc(), words.as_slice(), &mut source, &mut sink);
-        assert_eq!(rt; sink.bytes(), b"refused 20 at 0\n".as_slice(), "{what}");
-        assert_eq!(rt; status, Status::Refused, "{what}");
+fn files_and_faults_are_told(rt: HostRuntime) -> Result<(), Fail> {
+    for row in &ROWS {
+        let (output, status) = prove_run(rt.alloc(), row.input.to_vec(rt.alloc())?)?;
+        let shows = row.shows;
+        assert_eq!(rt; output.as_slice(), row.output.as_bytes(), "{shows}");
+        assert_eq!(rt; status, row.status, "{shows}");
     }
+    Ok(())
+}
+
+/// A goal whose left side is so many times x.
+fn long_sum(alloc: Global, count: u32) -> Result<Vec<u8>, Fail> {
+    let mut file = Vec::from_slice(alloc, b"ring R.\nvar x : R.\ngoal x")?;
+    for _ in 1..count {
+        file.extend_from_slice(b"+x")?;
+    }
+    file.extend_from_slice(b" = 0 by ring.\n")?;
+    Ok(file)
+}
+
+#[test]
+fn a_term_may_be_1000_deep(rt: HostRuntime) -> Result<(), Fail> {
+    let (_, status) = prove_run(rt.alloc(), long_sum(rt.alloc(), 1000)?)?;
+    assert_eq!(rt; status, Status::NotAll, "1,000 are read");
+    let (output, status) = prove_run(rt.alloc(), long_sum(rt.alloc(), 1001)?)?;
+    assert_eq!(rt; output.as_slice(), b"refused 11 at 2023\n".as_slice());
+    assert_eq!(rt; status, Status::Refused, "1,001 are not");
+    Ok(())
+}
+
+#[test]
+fn no_more_than_200_parentheses_may_be_open(rt: HostRuntime) -> Result<(), Fail> {
+    let mut input = Vec::from_slice(rt.alloc(), b"ring R.\nvar x : R.\ngoal ")?;
+    for _ in 0..201 {
+        input.push(b'(')?;
+    }
+    let (output, status) = prove_run(rt.alloc(), input)?;
+    assert_eq!(rt; output.as_slice(), b"refused 19 at 224\n".as_slice());
+    assert_eq!(rt; status, Status::Refused);
+    Ok(())
+}
+
+/// A file with so many variables, and one goal: their sum, in groups of forty, is 0.
+fn sum_of_variables(alloc: Global, count: u32) -> Result<Vec<u8>, Fail> {
+    let mut file = Vec::from_slice(alloc, b"ring R.\nvar")?;
+    for k in 0..count {
+        let name = format!(in alloc; " x{k}")?;
+        file.extend_from_slice(name.as_bytes())?;
+    }
+    file.extend_from_slice(b" : R.\ngoal x0")?;
+    for k in 1..count {
+        let between = if k % 40 != 0 {
+            " + "
+        } else if k == 40 {
+            " + ("
+        } else {
+            ") + ("
+        };
+        let name = format!(in alloc; "{between}x{k}")?;
+        file.extend_from_slice(name.as_bytes())?;
+    }
+    file.extend_from_slice(b") = 0 by ring.\n")?;
+    Ok(file)
+}
+
+#[test]
+fn a_goal_has_at_most_1000_atoms(rt: HostRuntime) -> Result<(), Fail> {
+    let input = sum_of_variables(rt.alloc(), 1001)?;
+    let mut wanted = Vec::from_slice(rt.alloc(), input.as_slice())?;
+    wanted.extend_from_slice(b"  atoms.\n")?;
+    let (output, status) = prove_run(rt.alloc(), input)?;
+    assert_eq!(rt; output, wanted);
+    assert_eq!(rt; status, Status::NotAll);
     Ok(())
 }
 
 #[test]
 fn a_failed_write_leaves_a_front_of_the_text(rt: HostRuntime) -> Result<(), Fail> {
     let words = prove(rt.alloc())?;
-    let input = joined(rt.alloc(), ROWS[0].goal, "")?;
+    let input = joined(rt.alloc(), ANSWERED[1].file, "")?;
     let mut source = MemSource::new(input, 1000, Vec::new(rt.alloc()));
     let fails = vec![in rt.alloc(); 2u64]?;
     let mut sink = MemSink::new(rt.alloc(), 1000, 16, fails)?;
-    let status = run::<Ints, _, _>(rt.alloc(), words.as_slice(), &mut source, &mut sink);
+    let status = run::<Rats, _, _>(rt.alloc(), words.as_slice(), &mut source, &mut sink);
     assert_eq!(rt; status, Status::WriteFault);
     assert_eq!(rt; sink.bytes(), b"ring R.\nvar x y ".as_slice());
     Ok(())
@@ -172,25 +323,27 @@ fn a_failed_write_leaves_a_front_of_the_text(rt: HostRuntime) -> Result<(), Fail
 #[test]
 fn after_a_failed_read_nothing_is_written(rt: HostRuntime) -> Result<(), Fail> {
     let words = prove(rt.alloc())?;
-    let input = joined(rt.alloc(), ROWS[0].goal, "")?;
+    let input = joined(rt.alloc(), ANSWERED[1].file, "")?;
     let fails = vec![in rt.alloc(); 3u64]?;
     let mut source = MemSource::new(input, 16, fails);
     let mut sink = MemSink::new(rt.alloc(), 1000, 1000, Vec::new(rt.alloc()))?;
-    let status = run::<Ints, _, _>(rt.alloc(), words.as_slice(), &mut source, &mut sink);
+    let status = run::<Rats, _, _>(rt.alloc(), words.as_slice(), &mut source, &mut sink);
     assert_eq!(rt; status, Status::ReadFault);
     assert_eq!(rt; sink.bytes(), b"".as_slice());
     Ok(())
 }
 
 #[test]
-fn more_than_a_mebibyte_is_refused(rt: HostRuntime) -> Result<(), Fail> {
-    let words = prove(rt.alloc())?;
-    let input = vec![in rt.alloc(); b' '; 1_048_577]?;
-    let mut source = MemSource::new(input, 65536, Vec::new(rt.alloc()));
-    let mut sink = MemSink::new(rt.alloc(), 1000, 1000, Vec::new(rt.alloc()))?;
-    let status = run::<Ints, _, _>(rt.alloc(), words.as_slice(), &mut source, &mut sink);
-    assert_eq!(rt; status, Status::Refused);
-    assert_eq!(rt; sink.bytes(), b"refused large\n".as_slice());
+fn an_input_has_at_most_a_mebibyte(rt: HostRuntime) -> Result<(), Fail> {
+    for (count, wanted, ending) in [
+        (1_048_576, "", Status::Done),
+        (1_048_577, "refused large\n", Status::Refused),
+    ] {
+        let input = vec![in rt.alloc(); b' '; count]?;
+        let (output, status) = prove_run(rt.alloc(), input)?;
+        assert_eq!(rt; output.as_slice(), wanted.as_bytes(), "{count}");
+        assert_eq!(rt; status, ending, "{count}");
+    }
     Ok(())
 }
 
@@ -200,7 +353,7 @@ fn without_words_the_usage_is_written_and_nothing_read(rt: HostRuntime) -> Resul
     let fails = vec![in rt.alloc(); 1u64]?;
     let mut source = MemSource::new(Vec::new(rt.alloc()), 1, fails);
     let mut sink = MemSink::new(rt.alloc(), 1000, 1000, Vec::new(rt.alloc()))?;
-    let status = run::<Ints, _, _>(rt.alloc(), words.as_slice(), &mut source, &mut sink);
+    let status = run::<Rats, _, _>(rt.alloc(), words.as_slice(), &mut source, &mut sink);
     assert_eq!(rt; status, Status::Usage);
     assert_eq!(rt; status.code(), 3);
     assert_eq!(rt; sink.bytes(), b"usage\n".as_slice());

@@ -9,6 +9,7 @@ pub mod Made
 pub mod Numbering
 pub mod Once
 pub mod Parts
+pub mod Ranges
 pub mod Results
 pub mod Tried
 pub mod Undone

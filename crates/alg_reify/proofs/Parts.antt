@@ -156,7 +156,7 @@ unfolding EachNode
 bounds n h = h
 
 -- its bound is the greatest norm
-within : (n : ℤ) → (pos 0 ≤ℤ n) × (n ≤ℤ MAX_LITERAL) → unsigned_abs n ≤ MAX
+pub within : (n : ℤ) → (pos 0 ≤ℤ n) × (n ≤ℤ MAX_LITERAL) → unsigned_abs n ≤ MAX
 within n h = omega (arith, ints, h.0, h.1)
 
 -- a literal is within the limit

@@ -80,7 +80,7 @@ module _ {K L : Type 0} {ck : K → K → Ordering} {cl : L → L → Ordering}
     (ok : IsTotalOrder ck) (ak : IsAntisymmetric ck) (ol : IsTotalOrder cl) (al : IsAntisymmetric cl)
     (f : K → L) where
   -- the norm of the image is at most the norm
-  norm_image : (p : PolyOver K) → norm (poly_image ck cl f p) ≤ norm p
+  pub norm_image : (p : PolyOver K) → norm (poly_image ck cl f p) ≤ norm p
   norm_image p =
       omega (arith, norm-collect (falling cl) (renamed (mono_image ck cl f) p), norm-renamed (mono_image ck cl f) p)
 

@@ -1,8 +1,10 @@
 -- What holds of the verdicts by ring.
-use Rattle.std.specs.Prelude.{◌≡◌, ◌≢◌, ◌<◌, ℤ, length}
+use Rattle.std.specs.Prelude.{◌≡◌, ◌≢◌, ◌<◌, ◌≤◌, ℤ, length, unsigned_abs}
 use Rattle.alg_terms.specs.declared.file.File.{File}
 use Rattle.alg_terms.specs.declared.goals.Equation.{Equation}
+use Rattle.alg_terms.specs.GoalRules.{IsEquation}
 use Rattle.alg_mono.specs.FiniteMaps.{Each}
+use Rattle.alg_mono.specs.Polynomials.{MAX}
 use Rattle.alg_poly.specs.Poly.{Monomial}
 use Rattle.alg_meaning.specs.PolynomialOf.{poly_of}
 use Rattle.alg_reify.specs.RingVerdict.{RingVerdict, IsRingVerdict, own_table}
@@ -23,3 +25,9 @@ abbrev pub NoIsOverTheTable : Type 0
 NoIsOverTheTable =
     (file : File) (e : Equation) (m : Monomial) (a b : ℤ) → IsRingVerdict file e (RingVerdict.No m a b) →
     Each (λ k. k < length (own_table file e)) m
+
+-- where the verdict on an equation of the file is No, neither coefficient is greater than a norm may be
+abbrev pub NoIsWithinRange : Type 0
+NoIsWithinRange =
+    (file : File) (e : Equation) (m : Monomial) (a b : ℤ) → IsEquation file e →
+    IsRingVerdict file e (RingVerdict.No m a b) → (unsigned_abs a ≤ MAX) × (unsigned_abs b ≤ MAX)

@@ -1,0 +1,65 @@
+-- What the answers in a reply say.
+use Rattle.std.proofs.Common.{◌≡◌, ◌<◌, ◌≤◌, ℕ, inr, Result, Ok, Err, zero, suc, ℤ, List, [], ◌∷◌, length, Option, None, Some, refl, sym, ap, ◌∙◌, subst, arith}
+use Rattle.std.specs.Prelude.{slice_get, slice_index_or, IfOk}
+use Rattle.std.specs.List.{AllZip}
+use Rattle.alg_lines.specs.declared.answer.Answer.{Answer}
+use Rattle.alg_lines.specs.declared.answer.Answer.TheVariants.{Proved, Certified, No}
+use Rattle.alg_lines.specs.declared.cert.Cert.{Cert}
+use Rattle.alg_terms.specs.declared.file.File.{File}
+use Rattle.alg_terms.specs.declared.goals.Goal.{Goal}
+use Rattle.alg_terms.specs.Members.{goal_at, no_goal}
+use Rattle.alg_terms.specs.Valid.{IsValid}
+use Rattle.alg_prover.specs.Answers.{IsAnswer, AreAnswers}
+use Rattle.alg_prover.specs.Laws as prover
+use Rattle.alg_universe.specs.declared.universe.Universe.{Ghosts}
+use Rattle.alg_typing.specs.Reading.{IsReadingOf}
+use Rattle.alg_cli.specs.declared.status.Status.{Status}
+use Rattle.alg_cli.specs.Replies.{ProvedAreRight, NoesDiffer, IsFileReply, IsReplyTo, most_bytes}
+
+-- an answer that is there is that of the goal at its place
+pair_at : (file : File) (goals : List Goal) (answers : List Answer) (i : ℕ) (answer : Answer) →
+    AllZip (IsAnswer file) goals answers → slice_get answers i ≡ Some answer →
+    (i < length goals) × IsAnswer file (slice_index_or goals i no_goal) answer
+pair_at file [] [] i answer h there = absurd (cc)
+pair_at file [] (a ∷ answers) i answer h there = absurd h
+pair_at file (goal ∷ goals) [] i answer h there = absurd h
+pair_at file (goal ∷ goals) (a ∷ answers) zero answer h there =
+    let same : a ≡ answer = cc in (omega arith, subst (IsAnswer file goal) same h.0)
+pair_at file (goal ∷ goals) (a ∷ answers) (suc i) answer h there =
+    let (low, later) = pair_at file goals answers i answer h.1 there in (omega arith, later)
+
+-- the answers of a valid file that are proofs are right
+pub proved_right : {E : Type 0} (u : Ghosts E) → prover.ProvedIsRight u → prover.CertifiedIsRight u →
+    (file : File) (answers : List Answer) → IsValid file → AreAnswers file answers → ProvedAreRight u file answers
+proved_right u proved certified file answers valid h = record {
+  proved = λ i conditions there.
+      let (low, answer) = pair_at file file.goals answers i (Proved conditions) h there in
+      proved file i conditions valid low answer;
+  certified = λ i constants cert there.
+      let (low, answer) = pair_at file file.goals answers i (Certified constants cert) h there in
+      certified file i constants cert valid low answer;
+}
+
+-- and where they are no, the sides differ
+pub noes_differ : prover.NoDiffers → (file : File) (answers : List Answer) → AreAnswers file answers → NoesDiffer file answers
+noes_differ law file answers h = λ i at left right there by_ring.
+    let (low, answer) = pair_at file file.goals answers i (No at left right) h there in
+    law file i at left right by_ring answer
+
+-- what holds of a success holds in weaker form
+pub ok_weaker : {A E : Type 0} (P Q : A → Type 0) (r : Result A E) → ((x : A) → P x → Q x) → IfOk r P → IfOk r Q
+ok_weaker P Q (Ok x) f h = f x h
+ok_weaker P Q (Err e) f h = tt
+
+-- the file's text with its answers is the reply to the bytes that read as the file
+pub answered_reply : {E : Type 0} (u : Ghosts E) → prover.ProvedIsRight u → prover.CertifiedIsRight u → prover.NoDiffers →
+    (bytes : List ℕ) (file : File) (text : List ℕ) (status : Status) → length bytes ≤ most_bytes →
+    IsReadingOf bytes (Ok file) → IsValid file → IsFileReply file text status → IsReplyTo u bytes text status
+answered_reply u proved certified differ bytes file text status low reads valid reply =
+    inr (low, inr (record {
+      file = file;
+      reads = reads;
+      reply = reply;
+      right = proved_right u proved certified file reply.answers valid reply.are_answers;
+      differ = noes_differ differ file reply.answers reply.are_answers;
+    }))

@@ -1,0 +1,86 @@
+-- What an input is replied: the text, the status, and what the answers in it say.
+use Rattle.std.specs.Prelude.{◌≡◌, ◌≢◌, ◌<◌, ◌≤◌, ◌⊎◌, ℕ, ℤ, Bool, true, false, if◌then◌else◌, List, [], ◌++◌, length, map, codes, decimal, slice_get, Some, Ok, Err}
+use Rattle.std.specs.List.{list_all}
+use Rattle.alg_lines.specs.declared.answer.Answer.{Answer}
+use Rattle.alg_lines.specs.declared.answer.Answer.TheVariants.{Proved, Certified, No}
+use Rattle.alg_lines.specs.declared.cert.Cert.{Cert}
+use Rattle.alg_meaning.specs.PolynomialOf.{poly_of}
+use Rattle.alg_mono.specs.Mono.{Pairs}
+use Rattle.alg_printer.specs.Text.{text_of}
+use Rattle.alg_prover.specs.Answers.{AreAnswers}
+use Rattle.alg_terms.specs.declared.file.File.{File}
+use Rattle.alg_terms.specs.declared.goals.Method.TheVariants.{ByRing}
+use Rattle.alg_terms.specs.declared.term.Term.{Term}
+use Rattle.alg_terms.specs.Members.{goal_at}
+use Rattle.alg_tokens.specs.declared.token.Refusal.{Refusal}
+use Rattle.alg_typing.specs.Reading.{IsReadingOf}
+use Rattle.alg_universe.specs.declared.universe.Universe.{Ghosts}
+use Rattle.alg_universe.specs.Right.{IsRight}
+use Rattle.alg_cli.specs.declared.status.Status.{Status}
+use Rattle.alg_cli.specs.declared.status.Status.TheVariants.{Done, NotAll, Refused}
+
+-- `prove` reads at most this many bytes
+abbrev pub most_bytes : ℕ
+most_bytes = 1048576
+
+-- an answer that says that the goal is proved
+abbrev pub is_proof : Answer → Bool
+is_proof (Proved conditions) = true
+is_proof (Certified constants cert) = true
+is_proof _ = false
+
+-- a file is done where each goal is proved
+abbrev pub status_of : List Answer → Status
+status_of answers = if list_all is_proof answers then Done else NotAll
+
+-- a fault as it is written
+abbrev pub refusal_text : Refusal → List ℕ
+refusal_text fault = codes "refused " ++ decimal fault.code ++ codes " at " ++ decimal fault.at ++ codes "\n"
+
+-- each goal that is answered proved is right in the universe, with the conditions or the constants of its answer
+pub record ProvedAreRight {E : Type 0} (u : Ghosts E) (file : File) (answers : List Answer) : Type 0 where
+  pub proved : (i : ℕ) (conditions : List Term) → slice_get answers i ≡ Some (Proved conditions) →
+      IsRight u file i conditions []
+  pub certified : (i : ℕ) (constants : List ℤ) (cert : Cert) → slice_get answers i ≡ Some (Certified constants cert) →
+      IsRight u file i [] constants
+
+-- the sides of each goal by ring that is answered no are different polynomials
+abbrev pub NoesDiffer : File → List Answer → Type 0
+NoesDiffer file answers =
+    (i : ℕ) (at : Pairs) (left right : ℤ) → slice_get answers i ≡ Some (No at left right) →
+    (goal_at file i).method ≡ ByRing →
+    poly_of (goal_at file i).equation.left ≢ poly_of (goal_at file i).equation.right
+
+-- the text is the file's with its answers, and the status is that of the answers
+pub record IsFileReply (file : File) (text : List ℕ) (status : Status) : Type 0 where
+  pub answers : List Answer
+  pub are_answers : AreAnswers file answers
+  pub writes : text ≡ text_of file (map Some answers)
+  pub ends : status ≡ status_of answers
+
+-- the bytes are a file, and the text is its own with its answers, which are right
+pub record IsAnswered {E : Type 0} (u : Ghosts E) (bytes text : List ℕ) (status : Status) : Type 0 where
+  pub file : File
+  pub reads : IsReadingOf bytes (Ok file)
+  pub reply : IsFileReply file text status
+  pub right : ProvedAreRight u file reply.answers
+  pub differ : NoesDiffer file reply.answers
+
+-- the bytes are no file, and the text is their first fault
+pub record IsRefused (bytes text : List ℕ) (status : Status) : Type 0 where
+  pub fault : Refusal
+  pub reads : IsReadingOf bytes (Err fault)
+  pub writes : text ≡ refusal_text fault
+  pub ends : status ≡ Refused
+
+-- there are too many bytes
+pub record IsTooLarge (bytes text : List ℕ) (status : Status) : Type 0 where
+  pub large : most_bytes < length bytes
+  pub writes : text ≡ codes "refused large\n"
+  pub ends : status ≡ Refused
+
+-- what an input of these bytes is replied
+abbrev pub IsReplyTo : {E : Type 0} → Ghosts E → List ℕ → List ℕ → Status → Type 0
+IsReplyTo u bytes text status =
+    IsTooLarge bytes text status
+    ⊎ ((length bytes ≤ most_bytes) × (IsRefused bytes text status ⊎ IsAnswered u bytes text status))

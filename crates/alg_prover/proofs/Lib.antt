@@ -1,0 +1,3 @@
+pub mod Answered
+pub mod Printing
+pub mod Verdicts

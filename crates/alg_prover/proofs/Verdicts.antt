@@ -1,0 +1,106 @@
+-- What the answers to goals say.
+use Rattle.std.proofs.Common.{◌≡◌, ◌≢◌, ℕ, ℤ, List, [], ◌∷◌, refl, sym, ap, ◌∙◌, subst}
+use Rattle.std.specs.List.{AllZip}
+use Rattle.alg_lines.specs.declared.answer.Answer.{Answer}
+use Rattle.alg_lines.specs.declared.answer.Answer.TheVariants.{Proved, Certified, No}
+use Rattle.alg_lines.specs.declared.cert.Cert.{Cert}
+use Rattle.alg_meaning.specs.PolynomialOf.{poly_of}
+use Rattle.alg_mono.specs.Mono.{Pairs}
+use Rattle.alg_terms.specs.declared.file.File.{File}
+use Rattle.alg_terms.specs.declared.goals.Equation.{Equation}
+use Rattle.alg_terms.specs.declared.goals.Goal.{Goal}
+use Rattle.alg_terms.specs.declared.goals.Method.{Method}
+use Rattle.alg_terms.specs.declared.goals.Method.TheVariants.{ByRing, ByField, ByNsatz}
+use Rattle.alg_terms.specs.declared.term.Term.{Term}
+use Rattle.alg_terms.specs.Members.{goal_at}
+use Rattle.alg_universe.specs.declared.universe.Universe.{Ghosts}
+use Rattle.alg_universe.specs.Right.{IsRight}
+use Rattle.alg_reify.specs.RingVerdict.{RingVerdict, IsRingVerdict}
+use Rattle.alg_reify.specs.Laws as reify
+use Rattle.alg_ring.specs.Laws as ring
+use Rattle.alg_prover.specs.Answers.{answer_of, IsAnswerBy, IsAnswer}
+use Rattle.alg_prover.specs.Laws.{OneAnswer, ProvedIsRight, CertifiedIsRight, NoDiffers}
+
+one_by : reify.OneRingVerdict → (file : File) (e : Equation) (method : Method) (a b : Answer) →
+    IsAnswerBy file e method a → IsAnswerBy file e method b → a ≡ b
+one_by law file e ByRing a b (v, h, p) (w, k, q) = p ∙ ap answer_of (law file e v w h k) ∙ sym q
+one_by law file e ByField a b h k = absurd h
+one_by law file e (ByNsatz uses power limit) a b h k = absurd h
+
+one_each : reify.OneRingVerdict → (file : File) (goals : List Goal) (one other : List Answer) →
+    AllZip (IsAnswer file) goals one → AllZip (IsAnswer file) goals other → one ≡ other
+one_each law file [] [] [] h k = refl
+one_each law file [] [] (b ∷ other) h k = absurd k
+one_each law file [] (a ∷ one) other h k = absurd h
+one_each law file (goal ∷ goals) [] other h k = absurd h
+one_each law file (goal ∷ goals) (a ∷ one) [] h k = absurd k
+one_each law file (goal ∷ goals) (a ∷ one) (b ∷ other) h k =
+    ap (λ x. x ∷ one) (one_by law file goal.equation goal.method a b h.0 k.0)
+    ∙ ap (λ xs. b ∷ xs) (one_each law file goals one other h.1 k.1)
+
+-- the answers to the goals of a file are determined
+pub one_answer : reify.OneRingVerdict → OneAnswer
+one_answer law file one other h k = one_each law file file.goals one other h k
+
+-- an answer proved is that of the verdict proved, without conditions
+proved_only : (file : File) (e : Equation) (conditions : List Term) (v : RingVerdict) → IsRingVerdict file e v →
+    Proved conditions ≡ answer_of v → (conditions ≡ []) × IsRingVerdict file e RingVerdict.Proved
+proved_only file e conditions RingVerdict.Atoms h same = absurd (cc)
+proved_only file e conditions RingVerdict.Range h same = absurd (cc)
+proved_only file e conditions RingVerdict.Degree h same = absurd (cc)
+proved_only file e conditions RingVerdict.Proved h same = (cc, h)
+proved_only file e conditions (RingVerdict.No m a b) h same = absurd (cc)
+
+proved_by : {E : Type 0} (u : Ghosts E) → ((method : Method) (file : File) (i : ℕ) (conditions : List Term) →
+    (method ≡ ByRing → IsRingVerdict file (goal_at file i).equation RingVerdict.Proved → IsRight u file i [] []) →
+    IsAnswerBy file (goal_at file i).equation method (Proved conditions) → IsRight u file i conditions [])
+proved_by u ByRing file i conditions right (v, h, same) =
+    let (none, proved) = proved_only file (goal_at file i).equation conditions v h same in
+    subst (λ cs. IsRight u file i cs []) (sym none) (right refl proved)
+proved_by u ByField file i conditions right h = absurd h
+proved_by u (ByNsatz uses power limit) file i conditions right h = absurd h
+
+-- a goal that is answered proved is right
+pub proved_is_right : {E : Type 0} (u : Ghosts E) → ring.ProvedIsRight u → ProvedIsRight u
+proved_is_right u law file i conditions valid low h =
+    proved_by u (goal_at file i).method file i conditions (λ by_ring proved. law file i valid low by_ring proved) h
+
+never_certified : (constants : List ℤ) (cert : Cert) (v : RingVerdict) → Certified constants cert ≡ answer_of v → ⊥
+never_certified constants cert RingVerdict.Atoms same = cc
+never_certified constants cert RingVerdict.Range same = cc
+never_certified constants cert RingVerdict.Degree same = cc
+never_certified constants cert RingVerdict.Proved same = cc
+never_certified constants cert (RingVerdict.No m a b) same = cc
+
+certified_by : {E : Type 0} (u : Ghosts E) → ((method : Method) (file : File) (i : ℕ) (constants : List ℤ) (cert : Cert) →
+    IsAnswerBy file (goal_at file i).equation method (Certified constants cert) → IsRight u file i [] constants)
+certified_by u ByRing file i constants cert (v, h, same) = absurd (never_certified constants cert v same)
+certified_by u ByField file i constants cert h = absurd h
+certified_by u (ByNsatz uses power limit) file i constants cert h = absurd h
+
+-- a goal that is answered by a certificate is right
+pub certified_is_right : {E : Type 0} (u : Ghosts E) → CertifiedIsRight u
+certified_is_right u file i constants cert valid low h =
+    certified_by u (goal_at file i).method file i constants cert h
+
+no_only : (file : File) (e : Equation) (at : Pairs) (left right : ℤ) (v : RingVerdict) → IsRingVerdict file e v →
+    No at left right ≡ answer_of v → IsRingVerdict file e (RingVerdict.No at left right)
+no_only file e at left right RingVerdict.Atoms h same = absurd (cc)
+no_only file e at left right RingVerdict.Range h same = absurd (cc)
+no_only file e at left right RingVerdict.Degree h same = absurd (cc)
+no_only file e at left right RingVerdict.Proved h same = absurd (cc)
+no_only file e at left right (RingVerdict.No m a b) h same =
+    let verdict : RingVerdict.No m a b ≡ RingVerdict.No at left right = cc in
+    subst (IsRingVerdict file e) verdict h
+
+no_by : reify.NoDiffers → (method : Method) (file : File) (i : ℕ) (at : Pairs) (left right : ℤ) → method ≡ ByRing →
+    IsAnswerBy file (goal_at file i).equation method (No at left right) →
+    poly_of (goal_at file i).equation.left ≢ poly_of (goal_at file i).equation.right
+no_by law ByRing file i at left right by_ring (v, h, same) =
+    let e = (goal_at file i).equation in law file e at left right (no_only file e at left right v h same)
+no_by law ByField file i at left right by_ring h = absurd h
+no_by law (ByNsatz uses power limit) file i at left right by_ring h = absurd h
+
+-- a goal that is answered no has different sides
+pub no_differs : reify.NoDiffers → NoDiffers
+no_differs law file i at left right by_ring h = no_by law (goal_at file i).method file i at left right by_ring h

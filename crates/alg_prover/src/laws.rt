@@ -1,0 +1,28 @@
+//! What the answers to goals say. The functions do nothing: their contracts are the laws.
+
+ghost use Rattle.alg_prover.specs.Laws.{OneAnswer, ProvedIsRight, CertifiedIsRight, NoDiffers};
+
+use alg_universe::Universe;
+
+/// The goals of a file have at most one list of answers.
+pub fn one_answer()
+    ensures { OneAnswer }
+{
+    alg_reify::laws::one_ring_verdict();
+}
+
+/// A goal that is answered proved is right in every universe, at all values at which its used
+/// hypotheses and the conditions or constants of the answer hold.
+pub fn proved_is_right<U: Universe>()
+    ensures proved { ProvedIsRight U.Universe }
+    ensures certified { CertifiedIsRight U.Universe }
+{
+    alg_ring::laws::proved_is_right::<U>();
+}
+
+/// The sides of a goal by ring that is answered no are different polynomials.
+pub fn no_differs()
+    ensures { NoDiffers }
+{
+    alg_reify::laws::no_differs();
+}
