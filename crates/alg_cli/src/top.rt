@@ -5,8 +5,6 @@ ghost use Rattle.alg_outside.specs.Bytes.{Gains, IsAtEnd};
 ghost use Rattle.alg_outside.specs.Faults.{Rose};
 ghost use Rattle.alg_terms.specs.Valid.{IsValid};
 ghost use Rattle.alg_terms.specs.declared.goals.Method.TheVariants.{ByRing};
-ghost use Rattle.alg_typing.specs.Laws.{OneReading};
-ghost use Rattle.alg_prover.specs.Laws.{OneAnswer};
 ghost use Rattle.alg_cli.specs.Runs.{IsProve, IsReply, Written, Wrote, WroteAll, WroteFront, IsAfterAll, IsEnding};
 ghost use Rattle.alg_cli.specs.Replies.{IsReplyTo, IsFileReply};
 ghost use Rattle.alg_cli.specs.Replies as spec;
@@ -44,7 +42,6 @@ pub fn run<U: Universe, S: Source, K: Sink>(
     source: &mut S,
     sink: &mut K,
 ) -> Status
-    requires { OneReading × OneAnswer }
     // What was written is the reply to the input, or the usage: the file's text with its answers,
     // each of which is right in every universe that fits, or the first fault.
     ensures written { Wrote (IsReply U.Universe words.now (S.left source.old)) result
@@ -71,6 +68,8 @@ pub fn run<U: Universe, S: Source, K: Sink>(
     ensures refused { result ≡ Status.Refused → IfSome (S.left source.old) (λ bytes. length bytes ≤ spec.most_bytes
         → IsAtEnd (S.left source.new)) }
 {
+    alg_typing::laws::one_reading();
+    alg_prover::laws::one_answer();
     if !is_prove(words) {
         return write_reply(sink, b"usage\n", Status::Usage);
     }

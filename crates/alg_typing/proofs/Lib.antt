@@ -31,3 +31,6 @@ pub mod Sorted
 pub mod SortedTerms
 pub mod Tables
 pub mod VarTables
+pub mod OneReading
+pub mod FirstFaults
+pub mod ReadingSteps

@@ -11,3 +11,4 @@ pub mod Wanted
 pub mod Reading
 pub mod Room
 pub mod Ends
+pub mod Laws

@@ -17,6 +17,7 @@ use std::alloc::Global;
 
 impl Scope<'_> {
     /// The first fault of a statement. Linear in the statement.
+    #[tactic(none)]
     fn first_fault(&self, alloc: Global, raw: &Raw) -> Result<Option<Refusal>, NoMemory>
         requires { IsWellKind self.now.text.now raw.now.kind }
         ensures { IfOk result
@@ -47,13 +48,31 @@ impl Declared {
             (λ end. Tells end (λ fault. first_fault self.old text.now raw ≡ Some fault)) }
         ensures err { OnErr result (self.new ≡ self.old) }
     {
-        match self.first_fault(alloc, text, &raw)? {
+        let added = self.add_read(alloc, text, &raw);
+        // Dropped by a call, so that the check has one case for it and not one for each kind of node.
+        drop(raw);
+        added
+    }
+
+    /// Adds a statement that was read from the text, or tells its first fault.
+    #[tactic(none)]
+    fn add_read(&mut self, alloc: Global, text: &str, raw: &Raw) -> Result<(), FileEnd>
+        requires well_read { (at : ℕ) × IsWellRead text.now at raw.now }
+        requires room { HasRoom self.old raw.now.kind }
+        ensures ok { OnOk result ((first_fault self.old text.now raw.now ≡ None)
+            × (self.new ≡ extended self.old text.now raw.now.kind)) }
+        ensures refused { IfErr result
+            (λ end. Tells end (λ fault. first_fault self.old text.now raw.now ≡ Some fault)) }
+        ensures err { OnErr result (self.new ≡ self.old) }
+    {
+        match self.first_fault(alloc, text, raw)? {
             Some(fault) => Err(FileEnd::Refused(fault)),
-            None => Ok(self.extend(alloc, text, &raw)?),
+            None => Ok(self.extend(alloc, text, raw)?),
         }
     }
 
     /// The first fault of a statement, by the names that are declared so far. The file is valid.
+    #[tactic(none)]
     fn first_fault(
         &self,
         alloc: Global,

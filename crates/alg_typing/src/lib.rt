@@ -8,6 +8,7 @@ mod adding;
 mod declaration;
 mod faults;
 mod known;
+pub mod laws;
 mod lists;
 mod name_faults;
 mod names;
@@ -16,6 +17,8 @@ mod scope;
 mod sort_faults;
 mod sorts;
 mod terms;
+#[cfg(test)]
+mod tests;
 
 pub use declaration::Declaration;
 pub use alg_reader::FileEnd;

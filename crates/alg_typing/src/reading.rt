@@ -14,6 +14,7 @@ use std::str;
 
 /// The file that these bytes are, or their first fault: that they are no UTF-8 comes before all
 /// faults of statements, and an earlier statement's fault before a later one's. Linear in the bytes.
+#[tactic(none)]
 pub fn read_file(alloc: Global, bytes: &[u8]) -> Result<File, FileEnd>
     requires { length bytes.now ≤ 16777216 }
     ensures ok { IfOk result (λ file. IsReadingOf bytes.now (Ok file) × IsValid file) }
@@ -30,6 +31,7 @@ pub fn read_file(alloc: Global, bytes: &[u8]) -> Result<File, FileEnd>
 }
 
 /// The file that a text is, or its first fault.
+#[tactic(none)]
 fn read_text(alloc: Global, text: &str) -> Result<File, FileEnd>
     requires { length text.now ≤ 16777216 }
     ensures ok { IfOk result (λ file. Reads text.now 0 no_statements (Ok file) × IsValid file) }
@@ -42,6 +44,7 @@ fn read_text(alloc: Global, text: &str) -> Result<File, FileEnd>
     'statements: loop {
         let raw = read_statement(alloc, text, at, Place::Plain)?;
         if let RawKind::End = raw.kind {
+            drop(raw);
             return Ok(declared.into_file());
         }
         at = raw.stop;

@@ -31,7 +31,7 @@ returns-in-Err-TooLarge-clause-always g c = λ prove read never.
     let left = g.S.Source.left c.args.source.now in
     let larger = c.read_whole.ensures.larger (c.in-Err-TooLarge.is ∙ ap Err c.in-Err-TooLarge.field-0-is) in
     if_told left (λ bytes. most_bytes < length bytes) _ (λ bytes large.
-        always g.U.Universe c.requires.0 c.requires.1 bytes (codes "refused large\n") Refused
+        always g.U.Universe c.one_reading.ensures c.one_answer.ensures bytes (codes "refused large\n") Refused
         c.write_reply-in-Err-TooLarge.result _ _ never (too_large g.U.Universe bytes large)
         c.write_reply-in-Err-TooLarge.ensures.wrote) larger
 
@@ -61,7 +61,7 @@ returns-in-Ok-reply_to-clause-always g c = λ prove read never.
     let made = subst (λ bytes. IsReplyTo g.U.Universe bytes reply.text.items reply.status) c.as_slice.ensures.value
     c.in-Ok-reply_to.ensures.reply in
     of_told left _ c.in-Ok.bytes.items _ c.in-Ok.ensures.all
-    (always g.U.Universe c.requires.0 c.requires.1 c.in-Ok.bytes.items written reply.status
+    (always g.U.Universe c.one_reading.ensures c.one_answer.ensures c.in-Ok.bytes.items written reply.status
     c.write_reply-in-Ok-reply_to.result _ _ never
     (subst (λ text. IsReplyTo g.U.Universe c.in-Ok.bytes.items text reply.status) same made)
     c.write_reply-in-Ok-reply_to.ensures.wrote)

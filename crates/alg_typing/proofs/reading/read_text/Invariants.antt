@@ -1,9 +1,10 @@
-use Rattle.std.proofs.Common.{◌≡◌, ◌≤◌, ◌-◌, length, All, Result}
+use Rattle.std.proofs.Common.{◌-◌, length, All, Result}
 use Rattle.std.specs.Str.{IsCharBoundary}
 use Rattle.alg_terms.specs.declared.file.File.{File}
 use Rattle.alg_tokens.specs.declared.token.Refusal.{Refusal}
 use Rattle.alg_typing.specs.Ends.{IsByRing}
 use Rattle.alg_typing.specs.Reading.{Reads, no_statements}
+use Rattle.alg_typing.proofs.ReadingSteps.{HasAtMost}
 use Rattle.alg_typing.proofs.reading.read_text.Given as goal
 
 -- what the rest of the text is read to be decides what all of it is; each member took a byte at least
@@ -12,12 +13,7 @@ invariant-statements l = record {
   decides : (outcome : Result File Refusal) → Reads l.text l.at l.declared outcome →
       Reads l.text 0 no_statements outcome;
   boundary : IsCharBoundary l.text l.at;
-  sorts : length l.declared.sorts ≤ l.at;
-  homs : length l.declared.homs ≤ l.at;
-  vars : length l.declared.vars ≤ l.at;
-  hyps : length l.declared.hyps ≤ l.at;
-  goals : length l.declared.goals ≤ l.at;
-  order : length l.declared.order ≤ l.at;
+  few : HasAtMost l.declared l.at;
   by_ring : All IsByRing l.declared.goals;
 }
 

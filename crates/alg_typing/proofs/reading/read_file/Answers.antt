@@ -1,0 +1,36 @@
+use Rattle.std.proofs.Common.{◌<◌, ◌≤◌, List, ℕ, length, sym, subst, inr, refl}
+use Rattle.std.specs.Str.{IsUtf8, IsValidUpTo}
+use Rattle.alg_typing.proofs.ReadingSteps.{small_place, read_all, told_all}
+use Rattle.alg_typing.proofs.reading.read_file.Goals as goal
+
+-- the bytes are a text
+pub read_text-requires-text-text : goal.read_text-requires-text-text
+read_text-requires-text-text c = λ _. subst IsUtf8 (sym c.in-Ok.ensures.cases.0) c.in-Ok.ensures.cases.1
+
+pub read_text-requires : goal.read_text-requires
+read_text-requires c = subst (λ (t : List ℕ). length t ≤ 16777216) (sym c.in-Ok.ensures.cases.0) c.requires
+
+pub returns-in-Ok-clause-ok : goal.returns-in-Ok-clause-ok
+returns-in-Ok-clause-ok c =
+    read_all c.args.bytes.now c.in-Ok.text.now c.in-Ok.ensures.cases.0 c.in-Ok.ensures.cases.1 c.read_text.result
+    c.read_text.ensures.ok
+
+pub returns-in-Ok-clause-refused : goal.returns-in-Ok-clause-refused
+returns-in-Ok-clause-refused c =
+    told_all c.args.bytes.now c.in-Ok.text.now c.in-Ok.ensures.cases.0 c.in-Ok.ensures.cases.1 c.read_text.result
+    c.read_text.ensures.refused
+
+pub returns-in-Ok-clause-by_ring : goal.returns-in-Ok-clause-by_ring
+returns-in-Ok-clause-by_ring c = c.read_text.ensures.by_ring
+
+-- they are none
+pub overflow_cast-result : goal.overflow_cast-result
+overflow_cast-result c =
+    let short = subst (λ (n : ℕ). n < length c.args.bytes.now) (sym c.valid_up_to.ensures)
+    c.in-Err.ensures.cases.1.short in
+    small_place c.valid_up_to.result (length c.args.bytes.now) short c.requires
+
+pub returns-in-Err-clause-refused : goal.returns-in-Err-clause-refused
+returns-in-Err-clause-refused c =
+    let longest = subst (IsValidUpTo c.args.bytes.now) (sym c.valid_up_to.ensures) c.in-Err.ensures.cases.1 in
+    inr (c.in-Err.ensures.cases.0, (c.valid_up_to.result, longest, refl))
