@@ -14,22 +14,31 @@ use Rattle.alg_typing.specs.Laws.{OneReading}
 use Rattle.alg_typing.specs.Reading.{first_fault, EndsWith, GoesOnWith, Reads, IsReadingOf, no_statements}
 use Rattle.alg_typing.specs.Resolved.{extended}
 
-raw_is_raw : (a b : Raw) → Ok {Raw} {FileEnd} a ≡ Ok b → a ≡ b
+abbrev read : Raw → Result Raw FileEnd
+read raw = Ok raw
+
+abbrev refused : Refusal → Result Raw FileEnd
+refused f = Err (Refused f)
+
+abbrev no_memory : Result Raw FileEnd
+no_memory = Err NoMemory
+
+raw_is_raw : (a b : Raw) → read a ≡ read b → a ≡ b
 raw_is_raw a b h = cc
 
-fault_is_fault : (a b : Refusal) → Err {Raw} {FileEnd} (Refused a) ≡ Err (Refused b) → a ≡ b
+fault_is_fault : (a b : Refusal) → refused a ≡ refused b → a ≡ b
 fault_is_fault a b h = cc
 
 some_is_some : (a b : Refusal) → Some a ≡ Some b → a ≡ b
 some_is_some a b h = cc
 
-raw_is_no_fault : (a : Raw) (b : Refusal) → Ok {Raw} {FileEnd} a ≡ Err (Refused b) → ⊥
+raw_is_no_fault : (a : Raw) (b : Refusal) → read a ≡ refused b → ⊥
 raw_is_no_fault a b h = absurd (cc)
 
-raw_is_memory : (a : Raw) → Ok {Raw} {FileEnd} a ≢ Err NoMemory
+raw_is_memory : (a : Raw) → read a ≢ no_memory
 raw_is_memory a h = absurd (cc)
 
-fault_is_memory : (a : Refusal) → Err {Raw} {FileEnd} (Refused a) ≢ Err NoMemory
+fault_is_memory : (a : Refusal) → refused a ≢ no_memory
 fault_is_memory a h = absurd (cc)
 
 module _ (once : OneOutcome) (text : List ℕ) where
@@ -57,35 +66,35 @@ module _ (once : OneOutcome) (text : List ℕ) where
   ends_once : (at : ℕ) (file : File) (one other : Result File Refusal) → EndsWith text at file one →
       EndsWith text at file other → one ≡ other
   ends_once at file (Ok f) (Ok g) (_, _, _, is) (_, _, _, same) = ap Ok (is ∙ sym same)
-  ends_once at file (Ok f) (Err b) (raw, read, _, _) (inl cut) = absurd (not_both at raw b read cut)
-  ends_once at file (Ok f) (Err b) (raw, read, ends, _) (inr (r, again, goes, _)) =
-      absurd (not_end at raw r read again ends goes)
-  ends_once at file (Err a) (Ok g) (inl cut) (raw, read, _, _) = absurd (not_both at raw a read cut)
-  ends_once at file (Err a) (Ok g) (inr (r, again, goes, _)) (raw, read, ends, _) =
-      absurd (not_end at raw r read again ends goes)
+  ends_once at file (Ok f) (Err b) (raw, here, _, _) (inl cut) = absurd (not_both at raw b here cut)
+  ends_once at file (Ok f) (Err b) (raw, here, ends, _) (inr (r, again, goes, _)) =
+      absurd (not_end at raw r here again ends goes)
+  ends_once at file (Err a) (Ok g) (inl cut) (raw, here, _, _) = absurd (not_both at raw a here cut)
+  ends_once at file (Err a) (Ok g) (inr (r, again, goes, _)) (raw, here, ends, _) =
+      absurd (not_end at raw r here again ends goes)
   ends_once at file (Err a) (Err b) (inl one) (inl other) = ap Err (same_fault at a b one other)
-  ends_once at file (Err a) (Err b) (inl one) (inr (r, read, _, _)) = absurd (not_both at r a read one)
-  ends_once at file (Err a) (Err b) (inr (r, read, _, _)) (inl other) = absurd (not_both at r b read other)
-  ends_once at file (Err a) (Err b) (inr (r, read, _, is)) (inr (q, again, _, same)) =
-      ap Err (some_is_some a b (sym is ∙ ap (first_fault file text) (same_raw at r q read again) ∙ same))
+  ends_once at file (Err a) (Err b) (inl one) (inr (r, here, _, _)) = absurd (not_both at r a here one)
+  ends_once at file (Err a) (Err b) (inr (r, here, _, _)) (inl other) = absurd (not_both at r b here other)
+  ends_once at file (Err a) (Err b) (inr (r, here, _, is)) (inr (q, again, _, same)) =
+      ap Err (some_is_some a b (sym is ∙ ap (first_fault file text) (same_raw at r q here again) ∙ same))
 
   no_end_here : (at : ℕ) (file : File) (one : Result File Refusal) (b : Raw) → EndsWith text at file one →
       IsRead text at (Ok b) → b.kind ≢ End → first_fault file text b ≡ None → ⊥
-  no_end_here at file (Ok f) b (raw, read, ends, _) again goes none = not_end at raw b read again ends goes
+  no_end_here at file (Ok f) b (raw, here, ends, _) again goes none = not_end at raw b here again ends goes
   no_end_here at file (Err a) b (inl cut) again goes none = not_both at b a again cut
-  no_end_here at file (Err a) b (inr (r, read, _, is)) again goes none = no_fault_twice at file r b a read again is none
+  no_end_here at file (Err a) b (inr (r, here, _, is)) again goes none = no_fault_twice at file r b a here again is none
 
   goes_once : (at : ℕ) (file : File) (raws more : List Raw) (one other : Result File Refusal) →
       GoesOnWith text at file raws one → GoesOnWith text at file more other → one ≡ other
   goes_once at file [] [] one other ends same = ends_once at file one other ends same
-  goes_once at file [] (b ∷ more) one other ends (read, goes, none, _) =
-      absurd (no_end_here at file one b ends read goes none)
-  goes_once at file (a ∷ raws) [] one other (read, goes, none, _) ends =
-      absurd (no_end_here at file other a ends read goes none)
-  goes_once at file (a ∷ raws) (b ∷ more) one other (read, _, _, on) (again, _, _, on_too) =
+  goes_once at file [] (b ∷ more) one other ends (here, goes, none, _) =
+      absurd (no_end_here at file one b ends here goes none)
+  goes_once at file (a ∷ raws) [] one other (here, goes, none, _) ends =
+      absurd (no_end_here at file other a ends here goes none)
+  goes_once at file (a ∷ raws) (b ∷ more) one other (here, _, _, on) (again, _, _, on_too) =
       goes_once a.stop (extended file text a.kind) raws more one other on
       (subst (λ (r : Raw). GoesOnWith text r.stop (extended file text r.kind) more other)
-        (sym (same_raw at a b read again)) on_too)
+        (sym (same_raw at a b here again)) on_too)
 
 neither_less : (m n : ℕ) → (m < n → ⊥) → (n < m → ⊥) → m ≡ n
 neither_less zero zero less more = refl
@@ -100,9 +109,9 @@ same_longest bytes m n one other =
 
 -- the file that a text is, or its first fault, is determined by the text
 pub one_reading : OneOutcome → OneReading
-one_reading once bytes one other (inl (_, raws, goes)) (inl (_, more, same)) =
+one_reading once bytes one other (inl (_, (raws, goes))) (inl (_, (more, same))) =
     goes_once once bytes 0 no_statements raws more one other goes same
 one_reading once bytes one other (inl (is, _)) (inr (none, _)) = absurd (none is)
 one_reading once bytes one other (inr (none, _)) (inl (is, _)) = absurd (none is)
-one_reading once bytes one other (inr (_, m, longest, is)) (inr (_, n, too, same)) =
+one_reading once bytes one other (inr (_, (m, longest, is))) (inr (_, (n, too, same))) =
     is ∙ ap (λ k. Err (fault 1 k)) (same_longest bytes m n longest too) ∙ sym same
