@@ -56,10 +56,13 @@ pub answered_reply : {E : Type 0} (u : Ghosts E) → prover.ProvedIsRight u → 
     (bytes : List ℕ) (file : File) (text : List ℕ) (status : Status) → length bytes ≤ most_bytes →
     IsReadingOf bytes (Ok file) → IsValid file → IsFileReply file text status → IsReplyTo u bytes text status
 answered_reply u proved certified differ bytes file text status low reads valid reply =
-    inr (low, inr (record {
-      file = file;
-      reads = reads;
-      reply = reply;
-      right = proved_right u proved certified file reply.answers valid reply.are_answers;
-      differ = noes_differ differ file reply.answers reply.are_answers;
-    }))
+    inr (
+      low,
+      inr (record {
+        file = file;
+        reads = reads;
+        reply = reply;
+        right = proved_right u proved certified file reply.answers valid reply.are_answers;
+        differ = noes_differ differ file reply.answers reply.are_answers;
+      }),
+    )

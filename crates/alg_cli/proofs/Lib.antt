@@ -1,4 +1,2 @@
 pub mod Answered
-pub mod LaidTerms
-pub mod LaidStatements
 pub mod Writing

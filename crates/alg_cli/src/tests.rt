@@ -224,7 +224,11 @@ fn each_goal_is_written_back_with_its_answer(rt: HostRuntime) -> Result<(), Fail
         let input = joined(rt.alloc(), row.file, "")?;
         let (output, status) = prove_run(rt.alloc(), input)?;
         let shows = row.shows;
-        assert_eq!(rt; output, joined(rt.alloc(), row.file, row.answer)?, "{shows}");
+        assert_eq!(rt;
+            output,
+            joined(rt.alloc(), row.file, row.answer)?,
+            "{shows}"
+        );
         assert_eq!(rt; status, row.status, "{shows}");
     }
     Ok(())

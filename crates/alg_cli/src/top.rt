@@ -45,8 +45,12 @@ pub fn run<U: Universe, S: Source, K: Sink>(
     // What was written is the reply to the input, or the usage: the file's text with its answers,
     // each of which is right in every universe that fits, or the first fault.
     ensures written { Wrote (IsReply U.Universe words.now (S.left source.old)) result
-        (record { before = K.written sink.old; after = K.written sink.new;
-            flushed_before = K.flushed sink.old; flushed_after = K.flushed sink.new }) }
+        (record {
+          before = K.written sink.old;
+          after = K.written sink.new;
+          flushed_before = K.flushed sink.old;
+          flushed_after = K.flushed sink.new;
+        }) }
     // Unless a count of faults rose or memory ran out, the reply to the input was written.
     ensures always { IsProve words.now → ¬ Rose (S.faults source.old) (S.faults source.new)
         → ¬ Rose (K.faults sink.old) (K.faults sink.new)
@@ -96,11 +100,19 @@ fn is_prove(words: &[String]) -> bool
 fn write_reply<K: Sink>(sink: &mut K, text: &[u8], status: Status) -> Status
     requires { IsAfterAll status }
     ensures wrote { ((result ≡ status) × WroteAll
-        (record { before = K.written sink.old; after = K.written sink.new;
-            flushed_before = K.flushed sink.old; flushed_after = K.flushed sink.new }) text.now)
+        (record {
+          before = K.written sink.old;
+          after = K.written sink.new;
+          flushed_before = K.flushed sink.old;
+          flushed_after = K.flushed sink.new;
+        }) text.now)
         ⊎ ((result ≡ Status.WriteFault) × Rose (K.faults sink.old) (K.faults sink.new) × WroteFront
-        (record { before = K.written sink.old; after = K.written sink.new;
-            flushed_before = K.flushed sink.old; flushed_after = K.flushed sink.new }) text.now) }
+        (record {
+          before = K.written sink.old;
+          after = K.written sink.new;
+          flushed_before = K.flushed sink.old;
+          flushed_after = K.flushed sink.new;
+        }) text.now) }
 {
     match write_whole(sink, text) {
         Ok(()) => status,

@@ -24,9 +24,9 @@ pub position-cons : {X : Type 0} (p : X → Bool) (x : X) (xs : List X) →
 position-cons p x xs = elim (cases (p x)) [
   | inl passes ↦ grind (arith, nat_tests)
   | inr fails ↦ elim (cases (nat_lt (position_or_len p xs) (length xs))) [
-      | inl low ↦ grind (arith, nat_tests)
-      | inr high ↦ grind (arith, nat_tests)
-    ]
+    | inl low ↦ grind (arith, nat_tests)
+    | inr high ↦ grind (arith, nat_tests)
+  ]
 ]
 
 same_name : (name : Name) → bytes_eq name name ≡ true

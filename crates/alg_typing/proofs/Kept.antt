@@ -10,8 +10,8 @@ pub kept : (file other : File) (table same : Table) → other ≡ file → same 
     IsTableOf other same × IsValid other
 kept file other table same e t is valid = (
   λ name. ap (λ u. Rattle.alg_typing.specs.Table.find u name) t ∙ is name
-  ∙ sym (ap (λ f. Rattle.alg_typing.specs.Names.declared_as f name) e),
-  subst IsValid (sym e) valid
+      ∙ sym (ap (λ f. Rattle.alg_typing.specs.Names.declared_as f name) e),
+  subst IsValid (sym e) valid,
 )
 
 -- a table from which new entries are taken again

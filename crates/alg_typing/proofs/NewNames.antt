@@ -61,7 +61,7 @@ HasNames-insert keys key names has = λ name.
 pub new_names-turn : (file : File) (text : List ℕ) (before : List (List ℕ)) (names : List Span) (i : ℕ) (d : Span)
     (first next fault : Option Refusal) (again : Bool) → i < length names →
     again ≡ (is_some (declared_as file (bytes_at text (get_or names i d)))
-      || list_any (bytes_eq (bytes_at text (get_or names i d))) before) →
+    || list_any (bytes_eq (bytes_at text (get_or names i d))) before) →
     fault ≡ first_of (fault_if again 6 (get_or names i d).start) → next ≡ earlier_of first fault →
     earlier_of next (first_of (new_names file text (bytes_at text (get_or names i d) ∷ before) (drop (i + 1) names)))
     ≡ earlier_of first (first_of (new_names file text before (drop i names)))
@@ -69,8 +69,8 @@ new_names-turn file text before names i d first next fault again within is is_fa
     let name = get_or names i d in
     let rest = first_of (new_names file text (bytes_at text name ∷ before) (drop (i + 1) names)) in
     let here : fault ≡ first_of (new_name file text before name) =
-        is_fault ∙ ap (λ b. first_of (fault_if b 6 name.start)) is in
+    is_fault ∙ ap (λ b. first_of (fault_if b 6 name.start)) is in
     ap (λ o. earlier_of o rest) (is_next ∙ ap (earlier_of first) here)
     ∙ earlier_of-assoc first (first_of (new_name file text before name)) rest
     ∙ ap (earlier_of first) (sym (first_of-append (new_name file text before name) _)
-      ∙ sym (at_drop_more (λ ns. first_of (new_names file text before ns)) names i d within))
+    ∙ sym (at_drop_more (λ ns. first_of (new_names file text before ns)) names i d within))

@@ -94,7 +94,7 @@ module _ (once : OneOutcome) (text : List ℕ) where
   goes_once at file (a ∷ raws) (b ∷ more) one other (here, _, _, on) (again, _, _, on_too) =
       goes_once a.stop (extended file text a.kind) raws more one other on
       (subst (λ (r : Raw). GoesOnWith text r.stop (extended file text r.kind) more other)
-        (sym (same_raw at a b here again)) on_too)
+      (sym (same_raw at a b here again)) on_too)
 
 neither_less : (m n : ℕ) → (m < n → ⊥) → (n < m → ⊥) → m ≡ n
 neither_less zero zero less more = refl

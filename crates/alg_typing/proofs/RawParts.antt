@@ -35,7 +35,7 @@ abbrev pub own_and_parts : {Y : Type 0} → (Node (List Y) → List Y) → ℕ �
 own_and_parts own head node = own node ++ of_parts node
 
 module _ {Y : Type 0} (P : Y → Type 0) (own : Node (List Y) → List Y) (t : RawTerm)
-  (all : All P (fold_raw (own_and_parts own) t)) where
+    (all : All P (fold_raw (own_and_parts own) t)) where
   -- what is said of all, at what the node is
   at_node : (n : RawNode) (ys : List Y) → t.node ≡ n → fold_under (own_and_parts own) t.head n ≡ ys → All P ys
   at_node n ys is comes =

@@ -37,15 +37,15 @@ module _ (file : File) (text : List ℕ) where
       let l = sorted file text may e.left in
       let r = sorted file text may e.right in
       let final =
-          is_sort
-          ∙ sym (λ i. option_or (sorted_own file text may e.left i) (sorted_own file text may e.right i)) in
+      is_sort
+      ∙ sym (λ i. option_or (sorted_own file text may e.left i) (sorted_own file text may e.right i)) in
       (λ i. earlier_of ((is_left.fault ∙ ap (λ s. first_of (l.faults s true)) final) i)
-        (earlier_of ((is_right.fault ∙ ap (λ s. first_of (r.faults s true)) final) i)
-          (earlier_of ((is_differs
-              ∙ (λ j. first_of (fault_if (differ (is_left.own j) (is_right.own j)) 9 e.relation))) i)
-            ((is_missing ∙ ap (λ s. first_of (fault_if (is_none s) 10 e.relation)) final) i))))
+      (earlier_of ((is_right.fault ∙ ap (λ s. first_of (r.faults s true)) final) i)
+      (earlier_of ((is_differs
+      ∙ (λ j. first_of (fault_if (differ (is_left.own j) (is_right.own j)) 9 e.relation))) i)
+      ((is_missing ∙ ap (λ s. first_of (fault_if (is_none s) 10 e.relation)) final) i))))
       ∙ sym (first_of-four (l.faults (option_or l.own r.own) true) (r.faults (option_or l.own r.own) true)
-        (fault_if (differ l.own r.own) 9 e.relation) (fault_if (is_none (option_or l.own r.own)) 10 e.relation))
+      (fault_if (differ l.own r.own) 9 e.relation) (fault_if (is_none (option_or l.own r.own)) 10 e.relation))
 
   -- a path by its next morphism
   pub path_sorts-turn : (path : List Span) (hyp i : ℕ) (d : Span) (first next fault : Option Refusal) (differs : Bool) →
@@ -61,4 +61,4 @@ module _ (file : File) (text : List ℕ) where
       ap (λ o. earlier_of o (first_of rest)) (is_next ∙ ap (earlier_of first) here)
       ∙ earlier_of-assoc first _ (first_of rest)
       ∙ ap (earlier_of first) (sym (first_of-append _ rest)
-        ∙ sym (at_drop_more (λ ns. first_of (path_sorts file text ns hyp)) path i d within))
+      ∙ sym (at_drop_more (λ ns. first_of (path_sorts file text ns hyp)) path i d within))

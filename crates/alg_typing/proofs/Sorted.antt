@@ -93,7 +93,7 @@ module _ (file : File) (text : List ℕ) where
         let may = at.may_divide in
         by_sorted (operator t.head (sorted file text may p) (sorted file text may q))
         (sorted-combined may t l r is
-          ∙ sym (λ i. operator t.head (sorted file text may (is_l i)) (sorted file text may (is_r i))))
+        ∙ sym (λ i. operator t.head (sorted file text may (is_l i)) (sorted file text may (is_r i))))
         (own ∙ (λ i. option_or (left.own i) (right.own i)))
         (fault ∙ faults_joined t.head _ _ _ _ _ _ _ _ left.own right.own left.fault right.fault)
 
@@ -107,14 +107,14 @@ module _ (file : File) (text : List ℕ) where
         let may = at.may_divide in
         by_sorted (node_sorted file text may t.head (RawNode-F.Div (sorted file text may p) (sorted file text may q)))
         (ap (fold_under (node_sorted file text may) t.head) is
-          ∙ fold_under-Div (node_sorted file text may) t.head l r
-          ∙ sym (λ i. node_sorted file text may t.head
-            (RawNode-F.Div (sorted file text may (is_l i)) (sorted file text may (is_r i)))))
+        ∙ fold_under-Div (node_sorted file text may) t.head l r
+        ∙ sym (λ i. node_sorted file text may t.head
+        (RawNode-F.Div (sorted file text may (is_l i)) (sorted file text may (is_r i)))))
         (is_c ∙ own ∙ (λ i. option_or (left.own i) (right.own i)))
         (faults
-          ∙ (λ i. earlier_of (is_own i)
-            ((fault ∙ faults_joined t.head _ _ _ _ _ _ _ _ left.own right.own left.fault right.fault) i))
-          ∙ sym (first_of-append (quotient file text may t.head at.sort at.in_fields) _))
+        ∙ (λ i. earlier_of (is_own i)
+        ((fault ∙ faults_joined t.head _ _ _ _ _ _ _ _ left.own right.own left.fault right.fault) i))
+        ∙ sym (first_of-append (quotient file text may t.head at.sort at.in_fields) _))
 
     -- an image is checked by its argument
     pub imaged : (name : Span) (l p : RawTerm) (hom : ℕ) (below : Standing) (a : Checked) → t.node ≡ Hom name l → p ≡ l →
@@ -131,15 +131,15 @@ module _ (file : File) (text : List ℕ) where
         let inner = sorted file text may p in
         let here = subst (λ (b : Standing). IsCheckOf file text b p a) is_below part in
         let at_hom = λ (h : ℕ). earlier_of (first_of (fault_if (differ inner.own (Some (source_of file h))) 9 t.head))
-            (first_of (inner.faults (Some (source_of file h))
-              (at.in_fields && is_field (kind_of file (target_of file h))))) in
+        (first_of (inner.faults (Some (source_of file h))
+        (at.in_fields && is_field (kind_of file (target_of file h))))) in
         by_sorted (node_sorted file text may t.head (RawNode-F.Hom name inner))
         (ap (fold_under (node_sorted file text may) t.head) is
-          ∙ fold_under-Hom (node_sorted file text may) t.head name l
-          ∙ sym (λ i. node_sorted file text may t.head (RawNode-F.Hom name (sorted file text may (is_l i)))))
+        ∙ fold_under-Hom (node_sorted file text may) t.head name l
+        ∙ sym (λ i. node_sorted file text may t.head (RawNode-F.Hom name (sorted file text may (is_l i)))))
         (own ∙ ap (λ h. Some (target_of file h)) is_hom)
         (fault
-          ∙ (λ i. earlier_of (first_of (fault_if (differ (here.own i) (Some (source_of file hom))) 9 t.head))
-            (here.fault i))
-          ∙ ap at_hom is_hom
-          ∙ sym (first_of-append (fault_if (differ inner.own (Some (source_of file (number_at file text name)))) 9 t.head) _))
+        ∙ (λ i. earlier_of (first_of (fault_if (differ (here.own i) (Some (source_of file hom))) 9 t.head))
+        (here.fault i))
+        ∙ ap at_hom is_hom
+        ∙ sym (first_of-append (fault_if (differ inner.own (Some (source_of file (number_at file text name)))) 9 t.head) _))

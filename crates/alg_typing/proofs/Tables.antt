@@ -67,7 +67,7 @@ place_more name_of xs x name =
     ap (position (bytes_eq name)) (map-append name_of xs (x ∷ []))
     ∙ position-push (bytes_eq name) (map name_of xs) (name_of x)
     ∙ ap (λ n. option_or (position (bytes_eq name) (map name_of xs)) (cond (bytes_eq name (name_of x)) (Some n) None))
-      (length-map xs name_of)
+    (length-map xs name_of)
 
 module _ (file : File) (table : Table) (is : IsTableOf file table) where
   -- a table with one more entry, where the declarations have it last
@@ -89,12 +89,12 @@ module _ (file : File) (table : Table) (is : IsTableOf file table) where
     table_with_sort sort fresh = λ name.
         let place = position (bytes_eq name) (map (λ s. s.name) file.sorts) in
         let behind = option_or (option_map as_a.Hom (position (bytes_eq name) (map (λ h. h.name) file.homs)))
-            (option_or (option_map as_a.Var (position (bytes_eq name) (map (λ v. v.name) file.vars)))
-            (option_map as_a.Hyp (position (bytes_eq name) (map (λ h. h.name) file.hyps)))) in
+        (option_or (option_map as_a.Var (position (bytes_eq name) (map (λ v. v.name) file.vars)))
+        (option_map as_a.Hyp (position (bytes_eq name) (map (λ h. h.name) file.hyps)))) in
         with_entry sort.name (as_a.Sort (length file.sorts)) name _
         (sym (ap (λ o. option_or (option_map as_a.Sort o) behind) (place_more (λ s. s.name) file.sorts sort name)
-          ∙ among_more as_a.Sort (bytes_eq name sort.name) place (length file.sorts) behind
-            (fresh_here sort.name name fresh)))
+        ∙ among_more as_a.Sort (bytes_eq name sort.name) place (length file.sorts) behind
+        (fresh_here sort.name name fresh)))
 
     pub table_with_hom : (hom : HomDecl) → declared_as file hom.name ≡ None →
         IsTableOf (record file { homs = file.homs ++ hom ∷ []; order = order })
@@ -103,13 +103,13 @@ module _ (file : File) (table : Table) (is : IsTableOf file table) where
         let sorts = option_map as_a.Sort (position (bytes_eq name) (map (λ s. s.name) file.sorts)) in
         let place = position (bytes_eq name) (map (λ h. h.name) file.homs) in
         let behind = option_or (option_map as_a.Var (position (bytes_eq name) (map (λ v. v.name) file.vars)))
-            (option_map as_a.Hyp (position (bytes_eq name) (map (λ h. h.name) file.hyps))) in
+        (option_map as_a.Hyp (position (bytes_eq name) (map (λ h. h.name) file.hyps))) in
         with_entry hom.name (as_a.Hom (length file.homs)) name _
         (sym (ap (λ o. option_or sorts (option_or (option_map as_a.Hom o) behind))
-            (place_more (λ h. h.name) file.homs hom name)
-          ∙ ap (option_or sorts) (among_more as_a.Hom (bytes_eq name hom.name) place (length file.homs) behind
-            (λ h. none_last sorts _ (fresh_here hom.name name fresh h)))
-          ∙ or-assoc sorts _ _))
+        (place_more (λ h. h.name) file.homs hom name)
+        ∙ ap (option_or sorts) (among_more as_a.Hom (bytes_eq name hom.name) place (length file.homs) behind
+        (λ h. none_last sorts _ (fresh_here hom.name name fresh h)))
+        ∙ or-assoc sorts _ _))
 
     pub table_with_var : (var : VarDecl) → declared_as file var.name ≡ None →
         IsTableOf (record file { vars = file.vars ++ var ∷ []; order = order })
@@ -121,12 +121,12 @@ module _ (file : File) (table : Table) (is : IsTableOf file table) where
         let behind = option_map as_a.Hyp (position (bytes_eq name) (map (λ h. h.name) file.hyps)) in
         with_entry var.name (as_a.Var (length file.vars)) name _
         (sym (ap (λ o. option_or sorts (option_or homs (option_or (option_map as_a.Var o) behind)))
-            (place_more (λ v. v.name) file.vars var name)
-          ∙ ap (λ o. option_or sorts (option_or homs o))
-            (among_more as_a.Var (bytes_eq name var.name) place (length file.vars) behind
-              (λ h. none_last homs _ (none_last sorts _ (fresh_here var.name name fresh h))))
-          ∙ ap (option_or sorts) (or-assoc homs _ _)
-          ∙ or-assoc sorts _ _))
+        (place_more (λ v. v.name) file.vars var name)
+        ∙ ap (λ o. option_or sorts (option_or homs o))
+        (among_more as_a.Var (bytes_eq name var.name) place (length file.vars) behind
+        (λ h. none_last homs _ (none_last sorts _ (fresh_here var.name name fresh h))))
+        ∙ ap (option_or sorts) (or-assoc homs _ _)
+        ∙ or-assoc sorts _ _))
 
     pub table_with_hyp : (hyp : Hyp) → declared_as file hyp.name ≡ None →
         IsTableOf (record file { hyps = file.hyps ++ hyp ∷ []; order = order })
@@ -138,9 +138,9 @@ module _ (file : File) (table : Table) (is : IsTableOf file table) where
         let place = position (bytes_eq name) (map (λ h. h.name) file.hyps) in
         with_entry hyp.name (as_a.Hyp (length file.hyps)) name _
         (sym (ap (λ o. option_or sorts (option_or homs (option_or vars (option_map as_a.Hyp o))))
-            (place_more (λ h. h.name) file.hyps hyp name)
-          ∙ ap (λ o. option_or sorts (option_or homs (option_or vars o)))
-            (among_last as_a.Hyp (bytes_eq name hyp.name) place (length file.hyps))
-          ∙ ap (λ o. option_or sorts (option_or homs o)) (or-assoc vars _ _)
-          ∙ ap (option_or sorts) (or-assoc homs _ _)
-          ∙ or-assoc sorts _ _))
+        (place_more (λ h. h.name) file.hyps hyp name)
+        ∙ ap (λ o. option_or sorts (option_or homs (option_or vars o)))
+        (among_last as_a.Hyp (bytes_eq name hyp.name) place (length file.hyps))
+        ∙ ap (λ o. option_or sorts (option_or homs o)) (or-assoc vars _ _)
+        ∙ ap (option_or sorts) (or-assoc homs _ _)
+        ∙ or-assoc sorts _ _))

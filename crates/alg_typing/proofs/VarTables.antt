@@ -49,13 +49,12 @@ module _ (file : File) (text : List ℕ) where
   are_new table before number [] has none = tt
   are_new table before number (name ∷ names) has none =
       let key = bytes_at text name in
-      let parts = both_none (new_name file text before name) (new_names file text (key ∷ before) names) none in
-      (
+      let parts = both_none (new_name file text before name) (new_names file text (key ∷ before) names) none in (
         none_found (find table key) _ (has key) (not_there _ 6 name.start parts.0),
         are_new (table ++ (key, as_a.Var number) ∷ []) (key ∷ before) (number + 1) names
-        (λ other. ap is_some (find-push table key (as_a.Var number) other)
-          ∙ found_more (find table other) _ _ (bytes_eq other key) (as_a.Var number) (has other))
-        parts.1
+            (λ other. ap is_some (find-push table key (as_a.Var number) other)
+            ∙ found_more (find table other) _ _ (bytes_eq other key) (as_a.Var number) (has other))
+            parts.1,
       )
 
 -- with the variables the table is one of the file with them
@@ -73,10 +72,10 @@ table_with_vars file table text sort order (n ∷ names) number is_number is new
     let one : File = record file { vars = file.vars ++ var ∷ []; order = order } in
     let entry : List ℕ × Declaration = (var.name, as_a.Var number) in
     let first : IsTableOf one (table ++ entry ∷ []) =
-        λ other. ap (λ k. find (table ++ (var.name, as_a.Var k) ∷ []) other) is_number
-        ∙ table_with_var file table is order var (sym (is var.name) ∙ new.0) other in
+    λ other. ap (λ k. find (table ++ (var.name, as_a.Var k) ∷ []) other) is_number
+    ∙ table_with_var file table is order var (sym (is var.name) ∙ new.0) other in
     let rest = table_with_vars one (table ++ entry ∷ []) text sort order names (number + 1)
-        (omega (arith, is_number, length-append file.vars (var ∷ []))) first new.1 name in
+    (omega (arith, is_number, length-append file.vars (var ∷ []))) first new.1 name in
     ap (λ t. find t name) (sym (append_assoc table (entry ∷ []) (var_entries text (number + 1) names)))
     ∙ rest
     ∙ ap (λ vars. declared_as (record file { vars = vars; order = order }) name) (append_assoc file.vars (var ∷ []) _)

@@ -73,12 +73,7 @@ impl Declared {
 
     /// The first fault of a statement, by the names that are declared so far. The file is valid.
     #[tactic(none)]
-    fn first_fault(
-        &self,
-        alloc: Global,
-        text: &str,
-        raw: &Raw,
-    ) -> Result<Option<Refusal>, NoMemory>
+    fn first_fault(&self, alloc: Global, text: &str, raw: &Raw) -> Result<Option<Refusal>, NoMemory>
         requires { IsWellKind text.now raw.now.kind }
         ensures valid { IsValid self.now }
         ensures fault { IfOk result (λ fault. fault ≡ first_fault self.now text.now raw.now) }
@@ -123,7 +118,9 @@ impl Declared {
                 self.add_hyp(alloc, text, *name, resolved, equation.nonzero)
             }
             RawKind::Goal {
-                equation, method, ..
+                equation,
+                method,
+                ..
             } => {
                 let equation = scope.equation_of(alloc, equation)?;
                 let method = scope.method_of(alloc, method)?;

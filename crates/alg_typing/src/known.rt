@@ -14,7 +14,9 @@ use crate::Declaration;
 use crate::lists::declare;
 use crate::names::{Names, name_in};
 use alg_reader::{RawKind, Span};
-use alg_terms::{Equation, File, Goal, HomDecl, Hyp, Kind, Name, NoMemory, Seq, Sort, Statement, VarDecl};
+use alg_terms::{
+    Equation, File, Goal, HomDecl, Hyp, Kind, Name, NoMemory, Seq, Sort, Statement, VarDecl,
+};
 use std::alloc::Global;
 use std::marker::Model;
 
@@ -170,7 +172,13 @@ impl Declared {
         let known = self.names.len();
         self.names.add(alloc, name, Declaration::Sort(number))?;
         let file = &mut self.file;
-        match declare(alloc, &mut file.sorts, sorts, &mut file.order, Statement::Sort(number)) {
+        match declare(
+            alloc,
+            &mut file.sorts,
+            sorts,
+            &mut file.order,
+            Statement::Sort(number),
+        ) {
             Ok(()) => Ok(()),
             Err(error) => {
                 self.names.truncate(known);
@@ -207,7 +215,13 @@ impl Declared {
         let known = self.names.len();
         self.names.add(alloc, name, Declaration::Hom(number))?;
         let file = &mut self.file;
-        match declare(alloc, &mut file.homs, homs, &mut file.order, Statement::Hom(number)) {
+        match declare(
+            alloc,
+            &mut file.homs,
+            homs,
+            &mut file.order,
+            Statement::Hom(number),
+        ) {
             Ok(()) => Ok(()),
             Err(error) => {
                 self.names.truncate(known);
@@ -238,7 +252,13 @@ impl Declared {
         let known = self.names.len();
         self.names.add_vars(alloc, text, names, first)?;
         let file = &mut self.file;
-        match declare(alloc, &mut file.vars, vars, &mut file.order, Statement::Vars { first, count }) {
+        match declare(
+            alloc,
+            &mut file.vars,
+            vars,
+            &mut file.order,
+            Statement::Vars { first, count },
+        ) {
             Ok(()) => Ok(()),
             Err(error) => {
                 self.names.truncate(known);
@@ -275,7 +295,13 @@ impl Declared {
         let known = self.names.len();
         self.names.add(alloc, name, Declaration::Hyp(number))?;
         let file = &mut self.file;
-        match declare(alloc, &mut file.hyps, hyps, &mut file.order, Statement::Hyp(number)) {
+        match declare(
+            alloc,
+            &mut file.hyps,
+            hyps,
+            &mut file.order,
+            Statement::Hyp(number),
+        ) {
             Ok(()) => Ok(()),
             Err(error) => {
                 self.names.truncate(known);
@@ -293,7 +319,13 @@ impl Declared {
         let number = self.file.goals.items().len() as u32;
         let goals = Vec::from_array(alloc, [goal])?;
         let file = &mut self.file;
-        declare(alloc, &mut file.goals, goals, &mut file.order, Statement::Goal(number))
+        declare(
+            alloc,
+            &mut file.goals,
+            goals,
+            &mut file.order,
+            Statement::Goal(number),
+        )
     }
 }
 

@@ -20,7 +20,7 @@ mod terms;
 #[cfg(test)]
 mod tests;
 
-pub use declaration::Declaration;
 pub use alg_reader::FileEnd;
+pub use declaration::Declaration;
 pub use known::Declared;
 pub use reading::read_file;

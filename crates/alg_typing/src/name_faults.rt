@@ -139,7 +139,11 @@ impl Scope<'_> {
 
     /// The first fault of the names of a statement. Linear in the statement.
     #[tactic(auto, using(crate::proofs::Firsts::firsts))]
-    pub(crate) fn name_faults(&self, alloc: Global, kind: &RawKind) -> Result<Option<Refusal>, NoMemory>
+    pub(crate) fn name_faults(
+        &self,
+        alloc: Global,
+        kind: &RawKind,
+    ) -> Result<Option<Refusal>, NoMemory>
         requires { IsWellKind self.now.text.now kind.now }
         ensures { IfOk result
             (λ fault. fault ≡ first_of (name_faults self.now.declared.now self.now.text.now kind.now)) }
@@ -163,11 +167,10 @@ impl Scope<'_> {
                 self.equation_names(equation),
             )),
             RawKind::Goal {
-                equation, method, ..
-            } => Ok(earlier(
-                self.equation_names(equation),
-                self.method_names(method),
-            )),
+                equation,
+                method,
+                ..
+            } => Ok(earlier(self.equation_names(equation), self.method_names(method))),
         }
     }
 }

@@ -5,8 +5,8 @@ ghost use Rattle.alg_reader.specs.WellRead.{IsNameAt, bytes_at};
 ghost use Rattle.alg_typing.specs.Names.{declared_as};
 ghost use Rattle.alg_typing.specs.Resolved.{number_at};
 
-use crate::{Declaration, Declared};
 use crate::names::name_in;
+use crate::{Declaration, Declared};
 use alg_reader::Span;
 
 /// A text with the names that are declared before a place in it.

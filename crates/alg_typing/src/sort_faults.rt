@@ -70,10 +70,7 @@ impl Scope<'_> {
         let right = self.check(&e.right, at);
         let differs = fault_where(differ(left.own, right.own), 9, e.relation);
         let missing = fault_where(sort.is_none(), 10, e.relation);
-        earlier(
-            left.fault,
-            earlier(right.fault, earlier(differs, missing)),
-        )
+        earlier(left.fault, earlier(right.fault, earlier(differs, missing)))
     }
 
     /// The sort of a hypothesis under a path of morphisms.

@@ -129,9 +129,7 @@ impl Scope<'_> {
         ensures { IsCheckOf self.now.declared.now self.now.text.now at term.now result }
     {
         match &term.node {
-            RawNode::Var(name) => {
-                leaf(Some(self.declared.sort_of_var(self.number_at(*name))))
-            }
+            RawNode::Var(name) => { leaf(Some(self.declared.sort_of_var(self.number_at(*name)))) }
             RawNode::Int(_) => leaf(None),
             RawNode::Neg(part) => self.check(part.get(), at),
             RawNode::Add(left, right) | RawNode::Sub(left, right) | RawNode::Mul(left, right) => {
@@ -170,8 +168,9 @@ impl Scope<'_> {
     /// Where the argument of a morphism stands.
     fn below(&self, at: Standing, hom: u32) -> Standing
         ensures { result ≡ record at {
-            sort = Some (source_of self.now.declared.now hom);
-            in_fields = at.in_fields && is_field (kind_of self.now.declared.now (target_of self.now.declared.now hom)) } }
+          sort = Some (source_of self.now.declared.now hom);
+          in_fields = at.in_fields && is_field (kind_of self.now.declared.now (target_of self.now.declared.now hom));
+        } }
     {
         let to_field = is_field(self.declared.kind_of(self.declared.target_of(hom)));
         Standing {

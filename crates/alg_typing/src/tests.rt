@@ -32,12 +32,24 @@ fn files(rt: HostRuntime) {
         ("", 0),
         ("# nothing\n", 0),
         ("ring R. var x y : R. goal x*y = y*x by ring.", 3),
-        ("domain D char 0. field F. hom f : D -> F. var x : D. goal f(x + 1) = f(x) + 1 by ring.", 5),
+        (
+            "domain D char 0. field F. hom f : D -> F. var x : D. goal f(x + 1) = f(x) + 1 by ring.",
+            5,
+        ),
         ("ring R. var x : R. goal x^1000 = 0 by ring.", 3),
-        ("ring R. var x : R. goal x = 170141183460469231731687303715884105727 by ring.", 3),
-        ("ring R. ring S. hom f : R -> S. hom g : S -> R. var x : R. goal g(f(x)) = x by ring.", 6),
+        (
+            "ring R. var x : R. goal x = 170141183460469231731687303715884105727 by ring.",
+            3,
+        ),
+        (
+            "ring R. ring S. hom f : R -> S. hom g : S -> R. var x : R. goal g(f(x)) = x by ring.",
+            6,
+        ),
     ] {
-        assert!(rt; found(rt.alloc(), text.as_bytes()) == Found::File(statements), "{text}");
+        assert!(rt;
+            found(rt.alloc(), text.as_bytes()) == Found::File(statements),
+            "{text}"
+        );
     }
 }
 
@@ -59,29 +71,62 @@ fn first_faults(rt: HostRuntime) {
         ("ring R. var x : R. goal x(x) = x by ring.", 8, 24),
         ("ring R. var x : R. goal R = x by ring.", 8, 24),
         // sorts that differ: of an operator, of the sides, of a morphism's argument
-        ("ring R. ring S. var x : R. var y : S. goal x + y = 0 by ring.", 9, 45),
-        ("ring R. ring S. var x : R. var y : S. goal x = y by ring.", 9, 45),
-        ("ring R. ring S. hom f : R -> S. var y : S. goal f(y) = y by ring.", 9, 48),
+        (
+            "ring R. ring S. var x : R. var y : S. goal x + y = 0 by ring.",
+            9,
+            45,
+        ),
+        (
+            "ring R. ring S. var x : R. var y : S. goal x = y by ring.",
+            9,
+            45,
+        ),
+        (
+            "ring R. ring S. hom f : R -> S. var y : S. goal f(y) = y by ring.",
+            9,
+            48,
+        ),
         // no sort, a great exponent, a quotient
         ("ring R.\nvar x : R.\ngoal 1 = 0 by ring.", 10, 26),
         ("ring R. var x : R. goal x^1001 = 0 by ring.", 12, 26),
         ("field F.\nvar x : F.\ngoal x/x = 1 by ring.", 13, 26),
         // a name's fault comes before a sort's, and an earlier statement's before a later one's
-        ("ring R. ring S. var x : R. var y : S. goal x + y = z by ring.", 7, 51),
+        (
+            "ring R. ring S. var x : R. var y : S. goal x + y = z by ring.",
+            7,
+            51,
+        ),
         ("ring R. ring R. var x : Q.", 6, 13),
         // of two in one group the earlier byte
-        ("ring R. ring S. var x : R. var y : S. goal y + x^1001 = 0 by ring.", 9, 45),
-        ("ring R. ring S. var x : R. var y : S. goal x^1001 + y = 0 by ring.", 12, 45),
+        (
+            "ring R. ring S. var x : R. var y : S. goal y + x^1001 = 0 by ring.",
+            9,
+            45,
+        ),
+        (
+            "ring R. ring S. var x : R. var y : S. goal x^1001 + y = 0 by ring.",
+            12,
+            45,
+        ),
     ] {
-        assert!(rt; found(rt.alloc(), text.as_bytes()) == Found::Fault(code, at), "{text}");
+        assert!(rt;
+            found(rt.alloc(), text.as_bytes()) == Found::Fault(code, at),
+            "{text}"
+        );
     }
 }
 
 #[test]
 fn bytes_that_are_no_text(rt: HostRuntime) {
-    assert!(rt; found(rt.alloc(), b"\xff") == Found::Fault(1, 0), "the first byte");
+    assert!(rt;
+        found(rt.alloc(), b"\xff") == Found::Fault(1, 0),
+        "the first byte"
+    );
     // the fault of a statement before it comes later
-    assert!(rt; found(rt.alloc(), b"var x : R. \xc3") == Found::Fault(1, 11), "a character's half");
+    assert!(rt;
+        found(rt.alloc(), b"var x : R. \xc3") == Found::Fault(1, 11),
+        "a character's half"
+    );
 }
 
 /// A goal with a sum of so many variables, and a name that is not declared.
@@ -97,15 +142,24 @@ fn long_sum(alloc: Global, count: u32) -> Result<Vec<u8>, AllocError> {
 #[test]
 fn depth_comes_before_names(rt: HostRuntime) -> Result<(), AllocError> {
     let most = long_sum(rt.alloc(), 1000)?;
-    assert!(rt; found(rt.alloc(), most.as_slice()) == Found::Fault(7, 2026), "1,000 are not too deep");
+    assert!(rt;
+        found(rt.alloc(), most.as_slice()) == Found::Fault(7, 2026),
+        "1,000 are not too deep"
+    );
     let deep = long_sum(rt.alloc(), 1001)?;
-    assert!(rt; found(rt.alloc(), deep.as_slice()) == Found::Fault(11, 2023), "1,001 are");
+    assert!(rt;
+        found(rt.alloc(), deep.as_slice()) == Found::Fault(11, 2023),
+        "1,001 are"
+    );
     Ok(())
 }
 
 #[test]
 fn the_file_so_far(rt: HostRuntime) {
     let declared = Declared::new(rt.alloc());
-    assert!(rt; declared.file().order.items().is_empty(), "no statements at first");
+    assert!(rt;
+        declared.file().order.items().is_empty(),
+        "no statements at first"
+    );
     one_reading();
 }

@@ -31,9 +31,9 @@ returns-in-Err-TooLarge-clause-always g c = λ prove read never.
     let left = g.S.Source.left c.args.source.now in
     let larger = c.read_whole.ensures.larger (c.in-Err-TooLarge.is ∙ ap Err c.in-Err-TooLarge.field-0-is) in
     if_told left (λ bytes. most_bytes < length bytes) _ (λ bytes large.
-        always g.U.Universe c.one_reading.ensures c.one_answer.ensures bytes (codes "refused large\n") Refused
-        c.write_reply-in-Err-TooLarge.result _ _ never (too_large g.U.Universe bytes large)
-        c.write_reply-in-Err-TooLarge.ensures.wrote) larger
+    always g.U.Universe c.one_reading.ensures c.one_answer.ensures bytes (codes "refused large\n") Refused
+    c.write_reply-in-Err-TooLarge.result _ _ never (too_large g.U.Universe bytes large)
+    c.write_reply-in-Err-TooLarge.ensures.wrote) larger
 
 -- the input was read whole
 pub returns-in-Ok-reply_to-clause-written : goal.returns-in-Ok-reply_to-clause-written

@@ -45,9 +45,9 @@ same-declared c = refl
 pub returns-in-End-clause-ok : goal.returns-in-End-clause-ok
 returns-in-End-clause-ok c = (
   subst (λ (f : File). Reads c.args.text.now 0 no_statements (Ok f)) (sym c.into_file.ensures.file)
-  (ends_here c.args.text.now no_statements c.statements.at c.statements.declared c.in_ok-raw.raw
-    c.statements.invariant.decides c.in_ok-raw.ensures.read c.in-End.is),
-  c.into_file.ensures.valid
+      (ends_here c.args.text.now no_statements c.statements.at c.statements.declared c.in_ok-raw.raw
+      c.statements.invariant.decides c.in_ok-raw.ensures.read c.in-End.is),
+  c.into_file.ensures.valid,
 )
 
 pub returns-in-End-clause-by_ring : goal.returns-in-End-clause-by_ring
@@ -66,7 +66,7 @@ add-requires c =
       well_read = (c.statements.at, c.in_ok-raw.ensures.well_read);
       statement = c.in_default.not-End;
       room = has_room c.statements.declared c.args.text.now c.statements.at c.in_ok-raw.raw invariant.few
-      c.in_ok-raw.ensures.well_read c.in_default.not-End c.requires;
+          c.in_ok-raw.ensures.well_read c.in_default.not-End c.requires;
     }
 
 pub same-declared-in-Continue-branch-2 : goal.same-declared-in-Continue-branch-2
@@ -90,11 +90,11 @@ statements-preserved c =
     (still_few c.statements.declared text c.statements.at raw invariant.few well c.in_default.not-End c.requires) in
     record {
       decides = decides_still text no_statements c.statements.at c.statements.declared c.add.new.self raw
-      invariant.decides c.in_ok-raw.ensures.read c.in_default.not-End c.in_ok-add.ensures.ok.0 is;
+          invariant.decides c.in_ok-raw.ensures.read c.in_default.not-End c.in_ok-add.ensures.ok.0 is;
       boundary = well.stops;
       few = more;
       by_ring = subst (λ (f : File). All IsByRing f.goals) (sym is)
-      (by_ring_still c.statements.declared text c.statements.at raw invariant.by_ring well);
+          (by_ring_still c.statements.declared text c.statements.at raw invariant.by_ring well);
     }
 
 -- a statement has a fault, or there is no memory
@@ -102,7 +102,7 @@ pub returns-in_err-add : goal.returns-in_err-add
 returns-in_err-add c = record {
   ok = error_tells_nothing _ _ c.from_residual-in_err-add.result c.from_residual-in_err-add.ensures.1;
   refused = passed_on _ c.from_residual-in_err-add.result _ c.from_residual-in_err-add.ensures.1
-  (told_fault c.args.text.now no_statements c.statements.at c.statements.declared c.in_ok-raw.raw _
-  c.statements.invariant.decides c.in_ok-raw.ensures.read c.in_default.not-End c.in_err-add.ensures.refused);
+      (told_fault c.args.text.now no_statements c.statements.at c.statements.declared c.in_ok-raw.raw _
+      c.statements.invariant.decides c.in_ok-raw.ensures.read c.in_default.not-End c.in_err-add.ensures.refused);
   by_ring = error_tells_nothing _ _ c.from_residual-in_err-add.result c.from_residual-in_err-add.ensures.1;
 }

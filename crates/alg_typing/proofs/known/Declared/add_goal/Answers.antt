@@ -18,11 +18,11 @@ added_or_not : {A E : Type 0} (file : File) (table : Table) (g : Goal) (members 
 added_or_not file table g members list n order (Ok u) one count is_list is_order no_list no_order is valid then = (
   is,
   subst IsValid
-  (sym (λ i. record file {
-    goals = (is_list ∙ ap (λ m. file.goals ++ m) one) i;
-    order = (is_order ∙ ap (λ k. file.order ++ statement.Goal k ∷ []) count) i;
-  }))
-  then
+      (sym (λ i. record file {
+        goals = (is_list ∙ ap (λ m. file.goals ++ m) one) i;
+        order = (is_order ∙ ap (λ k. file.order ++ statement.Goal k ∷ []) count) i;
+      }))
+      then,
 )
 added_or_not file table g members list n order (Err e) one count is_list is_order no_list no_order is valid then =
     (is, subst IsValid (sym (λ i. record file { goals = no_list i; order = no_order i })) valid)

@@ -20,8 +20,8 @@ invariant_of-self-in-Ok c =
     let bytes = c.name_in-name.ensures in
     let hom : HomDecl = record { name = bytes_at text c.args.name; from = c.args.from; to = c.args.to } in
     let members : c.in_ok-homs.homs.items ≡ hom ∷ [] =
-        c.in_ok-homs.ensures.items
-        ∙ ap (λ b. record { name = b; from = c.args.from; to = c.args.to } ∷ []) (c.in_ok-new.ensures ∙ bytes) in
+    c.in_ok-homs.ensures.items
+    ∙ ap (λ b. record { name = b; from = c.args.from; to = c.args.to } ∷ []) (c.in_ok-new.ensures ∙ bytes) in
     let list = c.in-Ok.ensures.list_ok ∙ ap (λ m. file.homs ++ m) members in
     let count = ap (length {A = HomDecl}) c.items.ensures in
     let order = c.in-Ok.ensures.order_ok ∙ ap (λ n. file.order ++ statement.Hom n ∷ []) count in
@@ -29,7 +29,7 @@ invariant_of-self-in-Ok c =
     (λ i. record file { homs = list i; order = order i })
     (c.in_ok-add.ensures.ok ∙ (λ i. names ++ (bytes i, as_a.Hom (count i)) ∷ []))
     (table_with_hom file names c.self.invariant.0 (file.order ++ statement.Hom (length file.homs) ∷ []) hom
-      (ap (λ f. declared_as f hom.name) c.self.view_is ∙ c.requires.fresh))
+    (ap (λ f. declared_as f hom.name) c.self.view_is ∙ c.requires.fresh))
     (subst (λ (f : File). IsValid (with_hom f hom)) (sym c.self.view_is) c.requires.valid)
 
 -- neither was added

@@ -20,8 +20,8 @@ invariant_of-self-in-Ok c =
     let bytes = c.name_in-name.ensures in
     let hyp : Hyp = record { name = bytes_at text c.args.name; equation = c.args.equation; nonzero = c.args.nonzero } in
     let members : c.in_ok-hyps.hyps.items ≡ hyp ∷ [] =
-        c.in_ok-hyps.ensures.items
-        ∙ ap (λ b. record { name = b; equation = c.args.equation; nonzero = c.args.nonzero } ∷ []) (c.in_ok-new.ensures ∙ bytes) in
+    c.in_ok-hyps.ensures.items
+    ∙ ap (λ b. record { name = b; equation = c.args.equation; nonzero = c.args.nonzero } ∷ []) (c.in_ok-new.ensures ∙ bytes) in
     let list = c.in-Ok.ensures.list_ok ∙ ap (λ m. file.hyps ++ m) members in
     let count = ap (length {A = Hyp}) c.items.ensures in
     let order = c.in-Ok.ensures.order_ok ∙ ap (λ n. file.order ++ statement.Hyp n ∷ []) count in
@@ -29,7 +29,7 @@ invariant_of-self-in-Ok c =
     (λ i. record file { hyps = list i; order = order i })
     (c.in_ok-add.ensures.ok ∙ (λ i. names ++ (bytes i, as_a.Hyp (count i)) ∷ []))
     (table_with_hyp file names c.self.invariant.0 (file.order ++ statement.Hyp (length file.hyps) ∷ []) hyp
-      (ap (λ f. declared_as f hyp.name) c.self.view_is ∙ c.requires.fresh))
+    (ap (λ f. declared_as f hyp.name) c.self.view_is ∙ c.requires.fresh))
     (subst (λ (f : File). IsValid (with_hyp f hyp)) (sym c.self.view_is) c.requires.valid)
 
 -- neither was added

@@ -22,8 +22,8 @@ invariant_of-self-in-Ok c =
     let bytes = c.name_in-name.ensures in
     let sort : Sort = record { name = bytes_at text c.args.name; kind = c.args.kind; char0 = c.args.char0 } in
     let members : c.in_ok-sorts.sorts.items ≡ sort ∷ [] =
-        c.in_ok-sorts.ensures.items
-        ∙ ap (λ b. record { name = b; kind = c.args.kind; char0 = c.args.char0 } ∷ []) (c.in_ok-new.ensures ∙ bytes) in
+    c.in_ok-sorts.ensures.items
+    ∙ ap (λ b. record { name = b; kind = c.args.kind; char0 = c.args.char0 } ∷ []) (c.in_ok-new.ensures ∙ bytes) in
     let list = c.in-Ok.ensures.list_ok ∙ ap (λ m. file.sorts ++ m) members in
     let count = ap (length {A = Sort}) c.items.ensures in
     let order = c.in-Ok.ensures.order_ok ∙ ap (λ n. file.order ++ statement.Sort n ∷ []) count in
@@ -31,7 +31,7 @@ invariant_of-self-in-Ok c =
     (λ i. record file { sorts = list i; order = order i })
     (c.in_ok-add.ensures.ok ∙ (λ i. names ++ (bytes i, as_a.Sort (count i)) ∷ []))
     (table_with_sort file names c.self.invariant.0 (file.order ++ statement.Sort (length file.sorts) ∷ []) sort
-      (ap (λ f. declared_as f sort.name) c.self.view_is ∙ c.requires.fresh))
+    (ap (λ f. declared_as f sort.name) c.self.view_is ∙ c.requires.fresh))
     (subst (λ (f : File). IsValid (extended f text kind)) (sym c.self.view_is) c.requires.valid)
 
 -- neither was added

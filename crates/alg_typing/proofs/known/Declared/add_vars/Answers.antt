@@ -39,11 +39,11 @@ invariant_of-self-in-Ok c =
     (λ i. record file { vars = list i; order = order i })
     c.in_ok-add_vars.ensures.ok
     (table_with_vars file names text c.args.sort (file.order ++ statement.Vars (length file.vars) (length spans) ∷ []) spans
-      number count c.self.invariant.0
-      (are_new file text names [] number spans (λ name. ap is_some (c.self.invariant.0 name) ∙ or_false _)
-        (ap (λ f. new_names f text [] spans) c.self.view_is ∙ c.requires.fresh)))
+    number count c.self.invariant.0
+    (are_new file text names [] number spans (λ name. ap is_some (c.self.invariant.0 name) ∙ or_false _)
+    (ap (λ f. new_names f text [] spans) c.self.view_is ∙ c.requires.fresh)))
     (subst (λ (f : File). IsValid (with_vars f (vars_of f text c.args.sort spans) (length spans)))
-      (sym c.self.view_is) c.requires.valid)
+    (sym c.self.view_is) c.requires.valid)
 
 -- neither was added
 pub invariant_of-self-in-Err : goal.invariant_of-self-in-Err

@@ -16,7 +16,7 @@ use Rattle.alg_typing.proofs.known.Declared.extend.Goals as goal
 pub add_sort-requires-clause-valid : goal.add_sort-requires-clause-valid
 add_sort-requires-clause-valid c =
     let valid = extended_is_valid c.args.self.now c.args.text.now _ c.args.raw.now c.requires.valid
-        c.requires.well_read.1 c.requires.room c.requires.faultless in
+    c.requires.well_read.1 c.requires.room c.requires.faultless in
     subst (λ (k : RawKind). IsValid (extended c.args.self.now c.args.text.now k)) c.in-Sort.is valid
 
 pub add_hom-requires-clause-valid : goal.add_hom-requires-clause-valid
@@ -24,7 +24,7 @@ add_hom-requires-clause-valid c =
     let file = c.args.self.now in
     let text = c.args.text.now in
     let valid = extended_is_valid file text _ c.args.raw.now c.requires.valid
-        c.requires.well_read.1 c.requires.room c.requires.faultless in
+    c.requires.well_read.1 c.requires.room c.requires.faultless in
     subst IsValid
     (λ i. with_hom file (record {
       name = bytes_at text c.in-Hom.name;
@@ -38,7 +38,7 @@ add_vars-requires-clause-fresh c =
     let file = c.args.self.now in
     let text = c.args.text.now in
     let all = both_none (new_names file text [] c.in-Vars.names) _
-        (sym (ap (name_faults file text) c.in-Vars.is) ∙ no_name_faults file text c.args.raw.now c.requires.faultless) in
+    (sym (ap (name_faults file text) c.in-Vars.is) ∙ no_name_faults file text c.args.raw.now c.requires.faultless) in
     ap (new_names file text []) c.items.ensures ∙ all.0
 
 pub add_vars-requires-clause-valid : goal.add_vars-requires-clause-valid
@@ -57,7 +57,7 @@ equation_of-requires-clause-left c =
     let text = c.args.text.now in
     let well = subst (IsWellKind text) c.in-Hyp.is c.requires.well_read.1.kind in
     (small_sides file text false c.in-Hyp.equation well.1
-      (sym (ap (sort_faults file text) c.in-Hyp.is) ∙ no_sort_faults file text c.args.raw.now c.requires.faultless)).0
+    (sym (ap (sort_faults file text) c.in-Hyp.is) ∙ no_sort_faults file text c.args.raw.now c.requires.faultless)).0
 
 pub equation_of-requires-clause-right : goal.equation_of-requires-clause-right
 equation_of-requires-clause-right c =
@@ -65,7 +65,7 @@ equation_of-requires-clause-right c =
     let text = c.args.text.now in
     let well = subst (IsWellKind text) c.in-Hyp.is c.requires.well_read.1.kind in
     (small_sides file text false c.in-Hyp.equation well.1
-      (sym (ap (sort_faults file text) c.in-Hyp.is) ∙ no_sort_faults file text c.args.raw.now c.requires.faultless)).1
+    (sym (ap (sort_faults file text) c.in-Hyp.is) ∙ no_sort_faults file text c.args.raw.now c.requires.faultless)).1
 
 pub add_hyp-requires-clause-valid : goal.add_hyp-requires-clause-valid
 add_hyp-requires-clause-valid c =
@@ -88,7 +88,7 @@ equation_of-requires-in-Goal-clause-left c =
     let e = c.in-Goal.equation in
     let may = may_divide_by file text c.in-Goal.method in
     let faults = both_none (equation_sorts file text may e) _
-        (sym (ap (sort_faults file text) c.in-Goal.is) ∙ no_sort_faults file text c.args.raw.now c.requires.faultless) in
+    (sym (ap (sort_faults file text) c.in-Goal.is) ∙ no_sort_faults file text c.args.raw.now c.requires.faultless) in
     (small_sides file text may e well.0 faults.0).0
 
 pub equation_of-requires-in-Goal-clause-right : goal.equation_of-requires-in-Goal-clause-right
@@ -99,7 +99,7 @@ equation_of-requires-in-Goal-clause-right c =
     let e = c.in-Goal.equation in
     let may = may_divide_by file text c.in-Goal.method in
     let faults = both_none (equation_sorts file text may e) _
-        (sym (ap (sort_faults file text) c.in-Goal.is) ∙ no_sort_faults file text c.args.raw.now c.requires.faultless) in
+    (sym (ap (sort_faults file text) c.in-Goal.is) ∙ no_sort_faults file text c.args.raw.now c.requires.faultless) in
     (small_sides file text may e well.0 faults.0).1
 
 pub add_goal-requires : goal.add_goal-requires
@@ -119,12 +119,12 @@ returns-in_ok-resolved-in-Hyp-clause-ok c =
     let file = c.args.self.now in
     let text = c.args.text.now in
     let is =
-        (λ i. with_hyp file (record {
-          name = bytes_at text c.in-Hyp.name;
-          equation = c.in_ok-resolved-in-Hyp.ensures i;
-          nonzero = c.in-Hyp.equation.nonzero;
-        }))
-        ∙ sym (ap (extended file text) c.in-Hyp.is) in
+    (λ i. with_hyp file (record {
+      name = bytes_at text c.in-Hyp.name;
+      equation = c.in_ok-resolved-in-Hyp.ensures i;
+      nonzero = c.in-Hyp.equation.nonzero;
+    }))
+    ∙ sym (ap (extended file text) c.in-Hyp.is) in
     subst (λ (f : File). OnOk c.add_hyp.result (c.add_hyp.new.self ≡ f)) is c.add_hyp.ensures.ok
 
 pub returns-in_ok-method-in-Goal-clause-ok : goal.returns-in_ok-method-in-Goal-clause-ok
@@ -132,9 +132,9 @@ returns-in_ok-method-in-Goal-clause-ok c =
     let file = c.args.self.now in
     let text = c.args.text.now in
     let is =
-        (λ i. with_goal file (record {
-          equation = c.in_ok-equation-in-Goal.ensures i;
-          method = c.in_ok-method-in-Goal.ensures i;
-        }))
-        ∙ sym (ap (extended file text) c.in-Goal.is) in
+    (λ i. with_goal file (record {
+      equation = c.in_ok-equation-in-Goal.ensures i;
+      method = c.in_ok-method-in-Goal.ensures i;
+    }))
+    ∙ sym (ap (extended file text) c.in-Goal.is) in
     subst (λ (f : File). OnOk c.add_goal.result (c.add_goal.new.self ≡ f)) is c.add_goal.ensures.ok

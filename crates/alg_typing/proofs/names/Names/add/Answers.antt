@@ -10,7 +10,7 @@ returns-clause-ok c =
     let table = entries_of c.self.inside.map.entries in
     let name = string_bytes c.in_ok-name.name in
     let none : find table name ≡ None =
-        ap (λ t. find t name) view ∙ ap (find c.args.self.now) bytes ∙ c.requires in
+    ap (λ t. find t name) view ∙ ap (find c.args.self.now) bytes ∙ c.requires in
     ap entries_of c.in_ok-insert.ensures.entries
     ∙ insert_new c.self.inside.map.entries c.in_ok-name.name c.args.declaration none
     ∙ ap (λ t. t ++ (name, c.args.declaration) ∷ []) view

@@ -8,8 +8,8 @@ returns c =
     let file = c.args.self.now.declared.now in
     let text = c.args.self.now.text.now in
     let sides =
-        c.or-sort.ensures ∙ (λ i. option_or (c.own_sort.ensures i) (c.own_sort-2.ensures i))
-        ∙ sym (equation_sort-sides file text c.args.e.now) in
+    c.or-sort.ensures ∙ (λ i. option_or (c.own_sort.ensures i) (c.own_sort-2.ensures i))
+    ∙ sym (equation_sort-sides file text c.args.e.now) in
     λ i. record {
       sort = (c.unwrap_or.ensures ∙ ap (λ s. unwrap_or s 0) sides) i;
       left = c.in_ok-left.ensures i;

@@ -10,6 +10,6 @@ abbrev pub invariant-loop-name : goal.invariant-loop-name
 invariant-loop-name l =
     (before : List (List ℕ))
     × ((name : List ℕ) →
-      list_any (λ key. bytes_eq name (string_bytes key)) l.before.keys ≡ list_any (bytes_eq name) before)
+    list_any (λ key. bytes_eq name (string_bytes key)) l.before.keys ≡ list_any (bytes_eq name) before)
     × (earlier_of l.first (first_of (new_names l.self.declared.now l.self.text.now before (drop l.name-index l.names)))
-      ≡ first_of (new_names l.self.declared.now l.self.text.now [] l.names))
+    ≡ first_of (new_names l.self.declared.now l.self.text.now [] l.names))

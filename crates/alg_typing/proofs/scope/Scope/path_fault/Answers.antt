@@ -12,7 +12,7 @@ loop-i-preserved c =
     let path = c.args.path.now in
     let within : c.loop-i.i < length path = omega arith in
     let inner : c.sort_along.result ≡ sort_along file text (drop (c.loop-i.i + 1) path) c.args.hyp =
-        c.sort_along.ensures ∙ ap (λ p. sort_along file text p c.args.hyp) (take_rest path (c.loop-i.i + 1)) in
+    c.sort_along.ensures ∙ ap (λ p. sort_along file text p c.args.hyp) (take_rest path (c.loop-i.i + 1)) in
     let source = c.source_of-source.ensures ∙ ap (source_of file) c.number_at.ensures in
     path_sorts-turn file text path c.args.hyp c.loop-i.i (record { start = 0; stop = 0 }) c.loop-i.first _ _ _ within
     (λ i. not (inner i == source i)) c.fault_where.ensures c.earlier-first.ensures
