@@ -1,8 +1,8 @@
 -- A valid file with one more statement, which was read without fault, is valid.
-use Rattle.std.proofs.Common.{◌≡◌, ◌≤◌, ◌<◌, ◌+◌, ℕ, Bool, true, false, List, [], ◌∷◌, ◌++◌, length, map, Option, None, Some, refl, sym, ap, ◌∙◌, subst, arith, append-nil, append_assoc}
+use Rattle.std.proofs.Common.{◌≡◌, ◌≤◌, ◌<◌, ◌+◌, ℕ, false, List, [], ◌∷◌, ◌++◌, length, map, Option, None, Some, refl, sym, ◌∙◌, subst, arith, append-nil, append_assoc}
 use Rattle.std.specs.Prelude.{All, flat_map}
 use Rattle.std.specs.Option.{option_or, option_map}
-use Rattle.std.proofs.lemmas.List.{map-append, length-map}
+use Rattle.std.proofs.lemmas.List.{map-append}
 use Rattle.std.proofs.lemmas.List.Elements.{All-nil, All-cons, All-append}
 use Rattle.alg_terms.specs.declared.file.File.{File}
 use Rattle.alg_terms.specs.declared.file.Statement.TheVariants as statement
@@ -11,14 +11,12 @@ use Rattle.alg_terms.specs.declared.goals.Goal.{Goal}
 use Rattle.alg_terms.specs.declared.goals.Hyp.{Hyp}
 use Rattle.alg_terms.specs.declared.goals.Method.{Method}
 use Rattle.alg_terms.specs.declared.goals.Method.TheVariants.{ByRing, ByField, ByNsatz}
-use Rattle.alg_terms.specs.declared.goals.Use.{Use}
 use Rattle.alg_terms.specs.declared.limits.TheConstants.{USES_END}
-use Rattle.alg_terms.specs.GoalRules.{IsEquation, IsHyp, IsUse, MayBeBy, IsGoal}
+use Rattle.alg_terms.specs.GoalRules.{IsHyp, IsUse, MayBeBy, IsGoal}
 use Rattle.alg_terms.specs.Members.{no_hyp, no_goal, uses_of}
 use Rattle.alg_terms.specs.Names.{IsName}
 use Rattle.alg_terms.specs.Occurring.{vars_in, homs_in}
-use Rattle.alg_terms.specs.Order.{Members, AreAmong, used_by, members_of}
-use Rattle.alg_terms.specs.Sorts.{equation_sort}
+use Rattle.alg_terms.specs.Order.{Members, AreAmong, members_of}
 use Rattle.alg_terms.specs.Valid.{IsValid, IsSort, IsHom, IsVar}
 use Rattle.alg_tokens.specs.declared.token.Refusal.{Refusal}
 use Rattle.alg_reader.specs.declared.raw.RawEquation.{RawEquation}
@@ -32,7 +30,7 @@ use Rattle.alg_reader.specs.WellRead.{bytes_at, IsWellKind, IsWellRead, members_
 use Rattle.alg_typing.specs.Faults.{first_of, fault}
 use Rattle.alg_typing.specs.NameFaults.{name_faults, new_name, equation_names, method_names}
 use Rattle.alg_typing.specs.Reading.{first_fault}
-use Rattle.alg_typing.specs.Resolved.{extended, term_of, equation_of, method_of}
+use Rattle.alg_typing.specs.Resolved.{extended, equation_of, method_of}
 use Rattle.alg_typing.specs.Room.{HasRoom}
 use Rattle.alg_typing.specs.SortFaults.{sort_faults, equation_sorts, method_sorts, may_divide_by, sort_of_sides}
 use Rattle.alg_typing.proofs.Assembling.{assembled}

@@ -1,30 +1,26 @@
 -- A valid file with one more declaration of a sort, a morphism or variables is valid.
-use Rattle.std.proofs.Common.{◌≡◌, ◌≤◌, ◌<◌, ◌^◌, ℕ, zero, suc, ◌+◌, Bool, true, List, [], ◌∷◌, ◌++◌, length, map, Option, None, refl, sym, ap, ◌∙◌, subst, arith, append-nil, append_assoc}
+use Rattle.std.proofs.Common.{◌≡◌, ◌<◌, ℕ, zero, suc, ◌+◌, Bool, List, [], ◌∷◌, ◌++◌, length, map, refl, sym, ap, ◌∙◌, subst, arith, append-nil, append_assoc}
 use Rattle.std.specs.Prelude.{All, Contains, slice_index_or}
 use Rattle.std.proofs.lemmas.List.{map-append, length-map, get_or-append-add}
 use Rattle.std.proofs.lemmas.List.Elements.{All-nil, All-cons}
 use Rattle.alg_terms.specs.declared.declarations.HomDecl.{HomDecl}
 use Rattle.alg_terms.specs.declared.declarations.Kind.{Kind}
 use Rattle.alg_terms.specs.declared.declarations.Sort.{Sort}
-use Rattle.alg_terms.specs.declared.declarations.VarDecl.{VarDecl}
 use Rattle.alg_terms.specs.declared.file.File.{File}
 use Rattle.alg_terms.specs.declared.file.Statement.TheVariants as statement
-use Rattle.alg_terms.specs.declared.goals.Goal.{Goal}
-use Rattle.alg_terms.specs.declared.goals.Hyp.{Hyp}
 use Rattle.alg_terms.specs.GoalRules.{IsHyp, IsGoal}
-use Rattle.alg_terms.specs.Kinds.{IsDomain}
 use Rattle.alg_terms.specs.Members.{sort_of_var, source_of, target_of, no_hom, no_var}
 use Rattle.alg_terms.specs.Names.{IsName}
-use Rattle.alg_terms.specs.Order.{numbers_from, AreAmong, used_by, members_of}
-use Rattle.alg_terms.specs.Valid.{IsValid, IsSort, IsHom, IsVar, names_of}
+use Rattle.alg_terms.specs.Order.{numbers_from}
+use Rattle.alg_terms.specs.Valid.{IsValid, IsSort, IsHom, IsVar}
 use Rattle.alg_reader.specs.declared.raw.RawKind.TheVariants as raws
 use Rattle.alg_reader.specs.declared.raw.Span.{Span}
-use Rattle.alg_reader.specs.WellRead.{bytes_at, IsNameAt, IsWellKind}
+use Rattle.alg_reader.specs.WellRead.{bytes_at, IsWellKind}
 use Rattle.alg_typing.specs.NameFaults.{name_faults, new_name, new_names, used_name}
 use Rattle.alg_typing.specs.Names.{is_sort}
 use Rattle.alg_typing.specs.Resolved.{extended, number_at, vars_of}
 use Rattle.alg_typing.specs.Room.{HasRoom}
-use Rattle.alg_typing.proofs.Assembling.{HasRoomFor, IsFit, assembled}
+use Rattle.alg_typing.proofs.Assembling.{assembled}
 use Rattle.alg_typing.proofs.MoreMembers.{Further, last_at, named}
 use Rattle.alg_typing.proofs.NewlyNamed.{is_new, newly_named, spelled_names}
 use Rattle.alg_typing.proofs.NumbersInRange.{parts_empty, sort_number}

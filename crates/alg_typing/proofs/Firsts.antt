@@ -1,5 +1,5 @@
 -- The first fault of several lists of faults, one after the other.
-use Rattle.std.proofs.Common.{◌≡◌, ℕ, ◌+◌, ◌<◌, length, get_or, take, flat_map, Bool, true, false, ◌||◌, ◌&&◌, ◌==◌, nat_lt, ltb, eqb, cond, List, [], ◌∷◌, ◌++◌, Option, None, Some, refl, sym, ◌∙◌, ap, arith}
+use Rattle.std.proofs.Common.{◌≡◌, ℕ, ◌+◌, ◌<◌, length, get_or, take, flat_map, Bool, true, false, List, [], ◌∷◌, ◌++◌, Option, None, Some, refl, sym, ◌∙◌, ap, arith}
 use Rattle.std.proofs.lemmas.Bool.Decides.{nat_tests}
 use Rattle.std.proofs.lemmas.List.{take_more, flat_map_more}
 use Rattle.alg_tokens.specs.declared.token.Refusal.{Refusal}

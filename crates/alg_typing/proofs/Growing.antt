@@ -1,12 +1,7 @@
 -- A file with more members: what is said of the members that were there still holds.
-use Rattle.std.proofs.Common.{◌≡◌, ◌<◌, ◌≤◌, ℕ, List, ◌∷◌, length, Option, None, Some, sym, ap, ◌∙◌, subst, arith}
+use Rattle.std.proofs.Common.{◌≡◌, ◌<◌, ◌≤◌, ℕ, List, length, Option, sym, ap, subst}
 use Rattle.std.specs.Prelude.{All, slice_index_or}
-use Rattle.alg_terms.specs.declared.declarations.HomDecl.{HomDecl}
-use Rattle.alg_terms.specs.declared.declarations.Kind.{Kind}
-use Rattle.alg_terms.specs.declared.declarations.Sort.{Sort}
-use Rattle.alg_terms.specs.declared.declarations.VarDecl.{VarDecl}
 use Rattle.alg_terms.specs.declared.file.File.{File}
-use Rattle.alg_terms.specs.declared.goals.Hyp.{Hyp}
 use Rattle.alg_terms.specs.Kinds.{IsField}
 use Rattle.alg_terms.specs.Members.{sort_at, hom_at, var_at, hyp_at, goal_at, kind_of, source_of, target_of, sort_of_var, no_hom}
 use Rattle.alg_terms.specs.Sorts.{Agree}

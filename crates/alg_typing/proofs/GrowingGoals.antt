@@ -1,8 +1,8 @@
 -- Equations, hypotheses, uses and goals in a file with more members: they keep the rules that they kept.
-use Rattle.std.proofs.Common.{◌≡◌, ◌≢◌, ◌<◌, ◌≤◌, ℕ, true, List, [], ◌∷◌, length, Option, None, Some, refl, sym, ap, ◌∙◌, subst, arith}
-use Rattle.std.specs.Prelude.{All, IfSome, slice_index_or}
+use Rattle.std.proofs.Common.{◌≡◌, ◌<◌, ℕ, List, [], ◌∷◌, length, Option, None, Some, sym, ap, ◌∙◌, subst, arith}
+use Rattle.std.specs.Prelude.{All, IfSome}
 use Rattle.std.specs.Option.{option_or}
-use Rattle.std.proofs.lemmas.List.Elements.{All-head, All-tail, All-cons, All-nil, All-weaker, All-get_or}
+use Rattle.std.proofs.lemmas.List.Elements.{All-head, All-tail, All-cons, All-nil, All-weaker}
 use Rattle.alg_terms.specs.declared.file.File.{File}
 use Rattle.alg_terms.specs.declared.goals.Equation.{Equation}
 use Rattle.alg_terms.specs.declared.goals.Goal.{Goal}
@@ -11,9 +11,9 @@ use Rattle.alg_terms.specs.declared.goals.Method.{Method}
 use Rattle.alg_terms.specs.declared.goals.Method.TheVariants.{ByRing, ByField, ByNsatz}
 use Rattle.alg_terms.specs.declared.goals.Use.{Use}
 use Rattle.alg_terms.specs.declared.term.Term.{Term, more_of-Term, Var, Int, Neg', Add', Sub', Mul', Div', Pow', Hom'}
-use Rattle.alg_terms.specs.GoalRules.{IsEquation, IsHyp, IsUse, IsNsatz, IsByField, MayBeBy, IsGoal}
+use Rattle.alg_terms.specs.GoalRules.{IsEquation, IsHyp, IsUse, MayBeBy, IsGoal}
 use Rattle.alg_terms.specs.Kinds.{IsDomain, IsField}
-use Rattle.alg_terms.specs.Members.{kind_of, source_of, target_of, hyp_at, no_hyp, no_hom, no_var}
+use Rattle.alg_terms.specs.Members.{kind_of, source_of, hyp_at, no_hyp, no_hom, no_var}
 use Rattle.alg_terms.specs.Nodes.{fold_term, EachNode}
 use Rattle.alg_terms.specs.Sorts.{own_sort, EachNodeAt, Leads, hyp_sort}
 use Rattle.alg_terms.specs.TermRules.{IsInRange, HasFieldQuotients, DividesInFields}

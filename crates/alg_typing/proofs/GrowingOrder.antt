@@ -1,6 +1,6 @@
 -- The order of a file with one more statement.
-use Rattle.std.proofs.Common.{◌≡◌, ◌<◌, ◌≤◌, ℕ, ◌+◌, List, [], ◌∷◌, ◌++◌, ◌⊎◌, inl, inr, length, map, refl, sym, ap, ◌∙◌, subst, arith, zero-add, append-nil, rules}
-use Rattle.std.specs.Prelude.{All, Contains, slice_index_or}
+use Rattle.std.proofs.Common.{◌≡◌, ◌<◌, ℕ, ◌+◌, List, [], ◌∷◌, ◌++◌, inl, inr, length, refl, sym, ap, ◌∙◌, subst, arith, zero-add, append-nil}
+use Rattle.std.specs.Prelude.{All, Contains}
 use Rattle.std.specs.List.{flat_map}
 use Rattle.std.proofs.lemmas.List.Concat.{flat_map-append}
 use Rattle.std.proofs.lemmas.List.Elements.{All-push, All-head, All-contains, Contains-append_right}
@@ -8,7 +8,7 @@ use Rattle.alg_terms.specs.declared.declarations.HomDecl.{HomDecl}
 use Rattle.alg_terms.specs.declared.file.File.{File}
 use Rattle.alg_terms.specs.declared.file.Statement.{Statement}
 use Rattle.alg_terms.specs.declared.file.Statement.TheVariants as statement
-use Rattle.alg_terms.specs.Members.{sort_of_var, hyp_at, goal_at, uses_of}
+use Rattle.alg_terms.specs.Members.{sort_of_var, hyp_at, goal_at}
 use Rattle.alg_terms.specs.Order.{numbers_from, Members, declared_by, used_by, AreAmong, declared_by_all, members_of, IsOneSorted, IsOrdered}
 use Rattle.alg_typing.proofs.Growing.{Grows, sort_same}
 use Rattle.alg_typing.proofs.Ordering.{numbers_below, numbers_each, numbers_map, all_flat, last_or_before}

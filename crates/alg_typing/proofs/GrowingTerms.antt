@@ -1,13 +1,10 @@
 -- Terms in a file with more members: they have the own sorts and keep the rules that they had.
-use Rattle.std.proofs.Common.{◌≡◌, ◌<◌, ◌≤◌, ℕ, List, ◌∷◌, length, Option, None, Some, refl, sym, ap, ◌∙◌, subst, arith}
-use Rattle.std.specs.Prelude.{All}
+use Rattle.std.proofs.Common.{◌≡◌, ℕ, Option, Some, refl, ap, ◌∙◌, arith}
 use Rattle.std.specs.Option.{option_or}
 use Rattle.alg_terms.specs.declared.file.File.{File}
 use Rattle.alg_terms.specs.declared.term.Term.{Term, more_of-Term, Var, Int, Neg', Add', Sub', Mul', Div', Pow', Hom'}
-use Rattle.alg_terms.specs.declared.term.Term.TheOpen.{Term-F}
-use Rattle.alg_terms.specs.Members.{source_of, target_of, sort_of_var, kind_of}
 use Rattle.alg_terms.specs.Nodes.{fold_term, EachNode}
-use Rattle.alg_terms.specs.Sorts.{own_sort, Agree}
+use Rattle.alg_terms.specs.Sorts.{own_sort}
 use Rattle.alg_terms.specs.TermRules.{IsTerm, IsInRange, HasAgreeingParts, HasFittingArgument}
 use Rattle.alg_typing.proofs.Growing.{Grows, source_same, target_same, sort_same, agree_same}
 

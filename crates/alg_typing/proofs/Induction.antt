@@ -1,5 +1,5 @@
 -- Induction over terms as code builds them.
-use Rattle.std.proofs.Common.{◌≡◌, ℕ, ℤ, refl, sym, subst}
+use Rattle.std.proofs.Common.{ℕ, ℤ, subst}
 use Rattle.alg_terms.specs.declared.term.Term.{Term, map-Term, roll-Term}
 use Rattle.alg_terms.specs.declared.term.Term.TheFolds.{ind-Term}
 use Rattle.alg_terms.specs.declared.term.Term.TheOpen.{Term-F}

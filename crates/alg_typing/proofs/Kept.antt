@@ -1,5 +1,5 @@
 -- What the file so far keeps: that it is valid, and that the table is one of its names.
-use Rattle.std.proofs.Common.{◌≡◌, ℕ, List, ◌++◌, length, take, sym, ◌∙◌, ap, subst}
+use Rattle.std.proofs.Common.{◌≡◌, ℕ, ◌++◌, length, take, sym, ◌∙◌, ap, subst}
 use Rattle.std.proofs.Math.Seq.{take-append_seam}
 use Rattle.alg_terms.specs.declared.file.File.{File}
 use Rattle.alg_terms.specs.Valid.{IsValid}

@@ -1,6 +1,6 @@
 -- Equations without faults are equations of the file once they are resolved.
-use Rattle.std.proofs.Common.{◌≡◌, ◌≤◌, ℕ, ℤ, pos, Bool, true, false, List, [], ◌∷◌, ◌++◌, Option, None, Some, refl, sym, ap, ◌∙◌, subst, arith}
-use Rattle.std.specs.Prelude.{All, ◌≤ℤ◌, is_none, unwrap_or}
+use Rattle.std.proofs.Common.{◌≡◌, ◌≤◌, ℕ, pos, Bool, true, false, List, [], ◌++◌, Option, None, Some, refl, sym, ◌∙◌, subst}
+use Rattle.std.specs.Prelude.{◌≤ℤ◌, is_none, unwrap_or}
 use Rattle.std.specs.Option.{option_or}
 use Rattle.std.proofs.lemmas.List.Elements.{All-nil, recursion_from_All}
 use Rattle.alg_terms.specs.declared.file.File.{File}
@@ -16,7 +16,7 @@ use Rattle.alg_reader.specs.WellRead.{IsWellTerm, IsWellEquation}
 use Rattle.alg_reader.specs.RawTerms.{literals_in}
 use Rattle.alg_typing.specs.NameFaults.{term_names, equation_names}
 use Rattle.alg_typing.specs.Resolved.{term_of, equation_of}
-use Rattle.alg_typing.specs.SortFaults.{sorted, equation_sorts, sort_of_sides}
+use Rattle.alg_typing.specs.SortFaults.{sorted, equation_sorts}
 use Rattle.alg_typing.proofs.GrowingTerms.{or_same}
 use Rattle.alg_typing.proofs.NumbersInRange.{parts_empty, no_fault}
 use Rattle.alg_typing.proofs.Quotients.{no_quotient, in_fields}

@@ -1,18 +1,16 @@
 -- Methods and uses without faults are those of a goal of the file once they are resolved.
-use Rattle.std.proofs.Common.{◌≡◌, ◌≢◌, ◌≤◌, ◌<◌, ℕ, Bool, true, false, List, [], ◌∷◌, ◌++◌, length, map, Option, None, Some, refl, sym, ap, ◌∙◌, subst, arith}
+use Rattle.std.proofs.Common.{◌≡◌, ◌≢◌, ◌≤◌, ◌<◌, ℕ, true, false, List, [], ◌∷◌, length, map, Option, None, Some, refl, sym, subst, arith}
 use Rattle.std.specs.Prelude.{All, flat_map, nat_lt, not, ◌&&◌, ◌||◌, ◌==◌}
 use Rattle.std.specs.Int.RustNames.{unsigned_abs}
-use Rattle.std.specs.Option.{option_or}
 use Rattle.std.proofs.lemmas.Bool.Decides.{nat_tests}
 use Rattle.std.proofs.lemmas.List.{length-map}
 use Rattle.std.proofs.lemmas.List.Elements.{All-nil, All-cons}
 use Rattle.alg_terms.specs.declared.file.File.{File}
-use Rattle.alg_terms.specs.declared.goals.Use.{Use}
 use Rattle.alg_terms.specs.declared.limits.TheConstants.{MAX_POWER, MAX_LIMIT, USES_END}
 use Rattle.alg_terms.specs.GoalRules.{IsEquation, IsUse, MayBeBy}
-use Rattle.alg_terms.specs.Kinds.{IsDomain, IsField}
-use Rattle.alg_terms.specs.Members.{kind_of, source_of, target_of, hyp_at}
-use Rattle.alg_terms.specs.Sorts.{equation_sort, Leads}
+use Rattle.alg_terms.specs.Kinds.{IsField}
+use Rattle.alg_terms.specs.Members.{kind_of, source_of, hyp_at}
+use Rattle.alg_terms.specs.Sorts.{Leads}
 use Rattle.alg_reader.specs.declared.raw.RawEquation.{RawEquation}
 use Rattle.alg_reader.specs.declared.raw.RawMethod.{RawMethod}
 use Rattle.alg_reader.specs.declared.raw.RawMethod.TheVariants as methods
@@ -21,9 +19,9 @@ use Rattle.alg_reader.specs.declared.raw.RawUse.{RawUse}
 use Rattle.alg_reader.specs.declared.raw.Span.{Span}
 use Rattle.alg_typing.specs.NameFaults.{used_name, use_names, method_names}
 use Rattle.alg_typing.specs.Names.{is_hom}
-use Rattle.alg_typing.specs.Resolved.{number_at, option_of, term_of, equation_of, use_of, method_of}
-use Rattle.alg_typing.specs.SortFaults.{differ, sort_of_sides, option_range, is_no_field, is_ring, is_field, sort_along, path_sorts, is_bad_unequal, use_sorts, start_of, method_sorts, may_divide_by, equation_sorts}
-use Rattle.alg_typing.proofs.NewEquations.{sides_resolved, divides_nowhere, divides_in_fields}
+use Rattle.alg_typing.specs.Resolved.{number_at, option_of, equation_of, use_of, method_of}
+use Rattle.alg_typing.specs.SortFaults.{option_range, is_ring, is_field, sort_along, path_sorts, is_bad_unequal, use_sorts, start_of, method_sorts, may_divide_by, equation_sorts}
+use Rattle.alg_typing.proofs.NewEquations.{divides_nowhere, divides_in_fields}
 use Rattle.alg_typing.proofs.NumbersInRange.{parts_empty, no_fault, hom_number, hyp_number}
 use Rattle.alg_typing.proofs.Quotients.{field_if, domain_if, or_false, not_false}
 

@@ -1,6 +1,6 @@
 -- A text has at most one outcome.
-use Rattle.std.proofs.Common.{◌≡◌, ◌≢◌, ◌⊎◌, inl, inr, ◌<◌, ℕ, List, [], ◌∷◌, Option, None, Some, Result, Ok, Err, sym, ◌∙◌, ap, subst, refl, zero, suc, arith}
-use Rattle.std.specs.Str.{IsUtf8, IsValidUpTo}
+use Rattle.std.proofs.Common.{◌≡◌, ◌≢◌, inl, inr, ◌<◌, ℕ, List, [], ◌∷◌, None, Some, Result, Ok, Err, sym, ◌∙◌, ap, subst, refl, zero, suc, arith}
+use Rattle.std.specs.Str.{IsValidUpTo}
 use Rattle.alg_terms.specs.declared.file.File.{File}
 use Rattle.alg_tokens.specs.declared.token.Refusal.{Refusal}
 use Rattle.alg_reader.specs.declared.raw.RawKind.TheVariants.{End}
@@ -11,7 +11,7 @@ use Rattle.alg_reader.specs.Laws.{OneOutcome}
 use Rattle.alg_reader.specs.Statements.{IsRead}
 use Rattle.alg_typing.specs.Faults.{fault}
 use Rattle.alg_typing.specs.Laws.{OneReading}
-use Rattle.alg_typing.specs.Reading.{first_fault, EndsWith, GoesOnWith, Reads, IsReadingOf, no_statements}
+use Rattle.alg_typing.specs.Reading.{first_fault, EndsWith, GoesOnWith, no_statements}
 use Rattle.alg_typing.specs.Resolved.{extended}
 
 abbrev read : Raw → Result Raw FileEnd

@@ -1,12 +1,12 @@
 -- What is said of all names or all exponents of a term that was read holds of those of its parts.
-use Rattle.std.proofs.Common.{◌≡◌, ◌⊎◌, inl, inr, ℕ, ◌+◌, ◌<◌, List, [], ◌∷◌, ◌++◌, length, get_or, subst, sym, ap, ◌∙◌, ◌≤◌, arith, All}
+use Rattle.std.proofs.Common.{◌≡◌, ◌⊎◌, inl, inr, ℕ, ◌+◌, List, ◌++◌, length, subst, sym, ap, ◌∙◌, ◌≤◌, arith, All}
 use Rattle.std.proofs.lemmas.List.{get_or_append_left, get_or-append-add, length-append}
 use Rattle.alg_reader.specs.declared.raw.RawTerm.{RawTerm}
 use Rattle.alg_reader.specs.declared.raw.RawNode.{RawNode}
 use Rattle.alg_reader.specs.declared.raw.RawNode.TheVariants.{Neg, Add, Sub, Mul, Div, Pow, Hom}
 use Rattle.alg_reader.specs.declared.raw.RawNumber.{RawNumber}
 use Rattle.alg_reader.specs.declared.raw.Span.{Span}
-use Rattle.alg_reader.specs.RawTerms.{Node, fold_raw, fold_under, of_parts, names_in, names_of_node, exponents_in, exponents_of_node}
+use Rattle.alg_reader.specs.RawTerms.{Node, fold_raw, fold_under, of_parts, names_of_node, exponents_of_node}
 use Rattle.alg_reader.specs.WellRead.{IsNameAt}
 use Rattle.std.specs.Int.RustNames.{unsigned_abs}
 use Rattle.alg_terms.specs.declared.limits.TheConstants.{MAX_EXPONENT}

@@ -1,10 +1,9 @@
 -- What one more statement does to the file so far, and to what the rest of the text decides.
-use Rattle.std.proofs.Common.{◌≡◌, ◌≢◌, ◌≤◌, ◌<◌, ◌+◌, ◌-◌, ◌^◌, ◌⊎◌, Fits, w32, inl, inr, ℕ, List, [], ◌∷◌, ◌++◌, length, length-append, None, Some, Result, Ok, Err, IfOk, IfErr, All, IsErrAnd, le_refl, refl, sym, ap, ◌∙◌, subst, arith}
+use Rattle.std.proofs.Common.{◌≡◌, ◌≢◌, ◌≤◌, ◌<◌, ◌+◌, ◌-◌, ◌^◌, Fits, w32, inl, inr, ℕ, List, [], ◌∷◌, ◌++◌, length, length-append, None, Some, Result, Ok, Err, IfOk, IfErr, All, IsErrAnd, le_refl, refl, sym, ap, subst, arith}
 use Rattle.std.specs.Str.{IsUtf8}
 use Rattle.std.proofs.lemmas.List.{length-map}
 use Rattle.std.proofs.lemmas.List.Elements.{All-append, All-cons, All-nil}
 use Rattle.alg_terms.specs.declared.file.File.{File}
-use Rattle.alg_terms.specs.declared.goals.Goal.{Goal}
 use Rattle.alg_terms.specs.declared.limits.TheConstants.{USES_END}
 use Rattle.alg_terms.specs.Valid.{IsValid}
 use Rattle.alg_tokens.specs.declared.token.Refusal.{Refusal}
@@ -19,8 +18,8 @@ use Rattle.alg_reader.specs.declared.reading.Raw.{Raw}
 use Rattle.alg_reader.specs.Statements.{IsRead}
 use Rattle.alg_reader.specs.WellRead.{IsWellRead, IsWellKind, members_in}
 use Rattle.alg_typing.specs.Ends.{IsByRing, Tells}
-use Rattle.alg_typing.specs.Reading.{first_fault, EndsWith, GoesOnWith, Reads, IsReadingOf, no_statements}
-use Rattle.alg_typing.specs.Resolved.{extended, vars_of, number_at, equation_of, method_of}
+use Rattle.alg_typing.specs.Reading.{first_fault, GoesOnWith, Reads, IsReadingOf, no_statements}
+use Rattle.alg_typing.specs.Resolved.{extended, method_of}
 use Rattle.alg_typing.specs.Room.{HasRoom}
 
 -- each list of a file has at most so many members

@@ -1,29 +1,21 @@
 -- A term without faults keeps the rules of terms once its names are resolved.
-use Rattle.std.proofs.Common.{◌≡◌, ◌<◌, ◌≤◌, ℕ, ℤ, pos, ◌+◌, max, Bool, true, false, List, [], ◌∷◌, ◌++◌, length, Option, None, Some, refl, sym, ap, ◌∙◌, subst, arith}
-use Rattle.std.specs.Prelude.{All, not, ◌&&◌, ◌||◌, ◌≤ℤ◌, nat_lt}
-use Rattle.std.specs.Int.RustNames.{unsigned_abs}
-use Rattle.std.specs.List.{AllByRecursion}
-use Rattle.std.specs.Option.{option_or}
+use Rattle.std.proofs.Common.{◌≡◌, ℕ, ◌+◌, max, Bool, false, List, [], ◌++◌, Option, None, Some, refl, ap, ◌∙◌, arith}
 use Rattle.std.proofs.lemmas.Bool.Decides.{nat_tests}
 use Rattle.alg_terms.specs.declared.file.File.{File}
-use Rattle.alg_terms.specs.declared.limits.TheConstants.{MAX_LITERAL, MAX_EXPONENT, MAX_DEPTH}
 use Rattle.alg_terms.specs.declared.term.Term.{Term}
-use Rattle.alg_terms.specs.declared.term.Term.TheOpen.{Term-F}
-use Rattle.alg_terms.specs.Members.{source_of, target_of}
 use Rattle.alg_terms.specs.Nodes.{fold_term, EachNode}
 use Rattle.alg_terms.specs.Sorts.{own_sort, Agree}
 use Rattle.alg_terms.specs.Term.{depth_of}
-use Rattle.alg_terms.specs.TermRules.{IsInRange, HasLiteral, HasExponent, HasAgreeingParts, HasFittingArgument}
+use Rattle.alg_terms.specs.TermRules.{IsInRange}
 use Rattle.alg_tokens.specs.declared.token.Refusal.{Refusal}
 use Rattle.alg_reader.specs.declared.raw.RawNode.{RawNode, more_of-RawTerm, Var, Int, Neg', Add', Sub', Mul', Div', Pow', Hom'}
-use Rattle.alg_reader.specs.declared.raw.RawNumber.{RawNumber}
 use Rattle.alg_reader.specs.RawTerms as raw
 use Rattle.alg_reader.specs.RawTerms.{fold_under, of_parts, literals_of_node}
 use Rattle.alg_typing.specs.NameFaults.{node_name}
-use Rattle.alg_typing.specs.Resolved.{number_at, node_term}
+use Rattle.alg_typing.specs.Resolved.{node_term}
 use Rattle.alg_typing.specs.SortFaults.{Sorted, differ, node_sorted}
 use Rattle.alg_typing.proofs.GrowingTerms.{or_same}
-use Rattle.alg_typing.proofs.NumbersInRange.{parts_empty, no_fault, var_number, hom_number}
+use Rattle.alg_typing.proofs.NumbersInRange.{parts_empty, var_number, hom_number}
 
 max_same : (a b a' b' : ℕ) → a' ≡ a → b' ≡ b → 1 + max a' b' ≡ 1 + max a b
 max_same a b a' b' p q = ap (λ d. 1 + max d b') p ∙ ap (λ d. 1 + max a d) q

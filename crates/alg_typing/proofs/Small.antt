@@ -1,5 +1,5 @@
 -- What is without fault of sorts has small exponents and options, and the own sorts of terms that were built.
-use Rattle.std.proofs.Common.{◌≡◌, ◌≤◌, ◌<◌, ◌^◌, ℕ, Bool, true, false, ◌||◌, nat_lt, List, [], ◌∷◌, ◌++◌, refl, sym, ◌∙◌, ap, All, Option, None, Some, arith, IfSome}
+use Rattle.std.proofs.Common.{◌≡◌, ◌<◌, ◌^◌, ℕ, Bool, true, false, ◌||◌, nat_lt, List, [], ◌∙◌, All, Option, None, Some, arith, IfSome}
 use Rattle.std.specs.Int.RustNames.{unsigned_abs}
 use Rattle.std.specs.Option.{option_or}
 use Rattle.std.proofs.lemmas.Bool.Decides.{nat_tests}
@@ -8,15 +8,14 @@ use Rattle.alg_terms.proofs.Built.{fold_term-Var, fold_term-Int, fold_term-Neg, 
 use Rattle.alg_terms.specs.declared.file.File.{File}
 use Rattle.alg_terms.specs.declared.limits.TheConstants.{MAX_EXPONENT, MAX_POWER, MAX_LIMIT}
 use Rattle.alg_terms.specs.Nodes.{fold_term}
-use Rattle.alg_terms.specs.Sorts.{node_sort, own_sort, equation_sort}
-use Rattle.alg_tokens.specs.declared.token.Refusal.{Refusal}
+use Rattle.alg_terms.specs.Sorts.{node_sort, equation_sort}
 use Rattle.alg_reader.specs.declared.raw.RawEquation.{RawEquation}
 use Rattle.alg_reader.specs.declared.raw.RawMethod.{RawMethod}
 use Rattle.alg_reader.specs.declared.raw.RawMethod.TheVariants as methods
 use Rattle.alg_reader.specs.declared.raw.RawNode.{RawNode, more_of-RawTerm, Var, Int, Neg', Add', Sub', Mul', Div', Pow', Hom'}
 use Rattle.alg_reader.specs.declared.raw.RawNumber.{RawNumber}
 use Rattle.alg_reader.specs.declared.raw.RawTerm.{RawTerm}
-use Rattle.alg_reader.specs.RawTerms.{fold_under, fold_raw, exponents_in, exponents_of_node}
+use Rattle.alg_reader.specs.RawTerms.{fold_under, exponents_of_node}
 use Rattle.alg_reader.specs.WellRead.{IsWellEquation, IsWellTerm}
 use Rattle.alg_typing.specs.Resolved.{node_term, term_of, number_at}
 use Rattle.alg_typing.specs.SortFaults.{sorted, node_sorted, exponent, option_range, equation_sorts, method_sorts, sort_of_sides}

@@ -8,7 +8,6 @@ use Rattle.alg_tokens.specs.declared.token.Refusal.{Refusal}
 use Rattle.alg_reader.specs.declared.raw.RawEquation.{RawEquation}
 use Rattle.alg_reader.specs.declared.raw.Span.{Span}
 use Rattle.alg_typing.specs.declared.sorts.Checked.{Checked}
-use Rattle.alg_typing.specs.declared.sorts.Standing.{Standing}
 use Rattle.alg_typing.specs.Checks.{IsCheckOf}
 use Rattle.alg_typing.specs.Faults.{earlier_of, fault_if, first_of}
 use Rattle.alg_typing.specs.Resolved.{number_at}

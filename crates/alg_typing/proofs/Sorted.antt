@@ -1,5 +1,5 @@
 -- A term is checked by its parts.
-use Rattle.std.proofs.Common.{◌≡◌, ◌⊎◌, inl, inr, ℕ, ◌&&◌, Bool, false, subst, List, [], ◌++◌, refl, sym, ◌∙◌, ap, Option, None, Some}
+use Rattle.std.proofs.Common.{◌≡◌, ◌⊎◌, inl, inr, ℕ, ◌&&◌, Bool, false, subst, List, ◌++◌, refl, sym, ◌∙◌, ap, Option, Some}
 use Rattle.std.specs.Option.{option_or}
 use Rattle.alg_terms.specs.declared.file.File.{File}
 use Rattle.alg_terms.specs.Members.{kind_of, source_of, target_of}
@@ -9,13 +9,13 @@ use Rattle.alg_reader.specs.declared.raw.RawNode.TheVariants.{Add, Sub, Mul, Div
 use Rattle.alg_reader.specs.declared.raw.RawNode.{RawNode, more_of-RawTerm, Var, Int, Neg', Add', Sub', Mul', Div', Pow', Hom'}
 use Rattle.alg_reader.specs.declared.raw.RawNode.TheOpen.{RawNode-F}
 use Rattle.alg_reader.specs.declared.raw.Span.{Span}
-use Rattle.alg_reader.specs.RawTerms.{fold_under, fold_raw}
+use Rattle.alg_reader.specs.RawTerms.{fold_under}
 use Rattle.alg_typing.specs.declared.sorts.Checked.{Checked}
 use Rattle.alg_typing.specs.declared.sorts.Standing.{Standing}
 use Rattle.alg_typing.specs.Checks.{IsCheckOf}
 use Rattle.alg_typing.specs.Faults.{earlier_of, fault_if, first_of}
 use Rattle.alg_typing.specs.Resolved.{number_at}
-use Rattle.alg_typing.specs.SortFaults.{Sorted, differ, is_field, image, operator, quotient, sorted, node_sorted}
+use Rattle.alg_typing.specs.SortFaults.{Sorted, differ, is_field, operator, quotient, sorted, node_sorted}
 use Rattle.alg_typing.proofs.Firsts.{first_of-append, earlier_of-assoc}
 use Rattle.alg_typing.proofs.RawBuilt.{fold_under-Add, fold_under-Sub, fold_under-Mul, fold_under-Div, fold_under-Hom}
 use Rattle.alg_typing.proofs.RawParts.{Joins}

@@ -1,6 +1,6 @@
 -- A term whose sorts have no faults keeps the rules of literals, exponents and sorts once it is resolved.
-use Rattle.std.proofs.Common.{◌≡◌, ◌<◌, ◌≤◌, ℕ, ℤ, pos, Bool, true, false, List, [], ◌∷◌, ◌++◌, ◌⊎◌, inl, inr, length, Option, None, Some, refl, sym, ap, ◌∙◌, subst, arith}
-use Rattle.std.specs.Prelude.{All, not, ◌&&◌, ◌||◌, ◌≤ℤ◌, nat_lt}
+use Rattle.std.proofs.Common.{◌≡◌, ◌≤◌, ℕ, pos, Bool, false, List, [], ◌++◌, Option, Some, subst, arith}
+use Rattle.std.specs.Prelude.{◌≤ℤ◌, nat_lt}
 use Rattle.std.specs.Int.RustNames.{unsigned_abs}
 use Rattle.std.specs.List.{AllByRecursion}
 use Rattle.std.proofs.lemmas.Bool.Decides.{nat_tests}
@@ -9,7 +9,7 @@ use Rattle.alg_terms.specs.declared.limits.TheConstants.{MAX_LITERAL, MAX_EXPONE
 use Rattle.alg_terms.specs.declared.term.Term.{Term}
 use Rattle.alg_terms.specs.Members.{source_of}
 use Rattle.alg_terms.specs.Nodes.{EachNode}
-use Rattle.alg_terms.specs.Sorts.{own_sort, Agree, EachNodeAt}
+use Rattle.alg_terms.specs.Sorts.{own_sort, Agree}
 use Rattle.alg_terms.specs.TermRules.{HasLiteral, HasExponent, HasAgreeingParts, HasFittingArgument}
 use Rattle.alg_reader.specs.declared.raw.RawNode.{RawNode, more_of-RawTerm, Var, Int, Neg', Add', Sub', Mul', Div', Pow', Hom'}
 use Rattle.alg_reader.specs.declared.raw.RawNumber.{RawNumber}

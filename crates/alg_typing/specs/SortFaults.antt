@@ -3,7 +3,7 @@ use Rattle.std.specs.Prelude.{ℕ, Bool, true, false, not, ◌||◌, ◌&&◌, �
 use Rattle.std.specs.Int.RustNames.{unsigned_abs}
 use Rattle.std.specs.Option.{option_or, option_map_or}
 use Rattle.alg_terms.specs.declared.declarations.Kind.{Kind}
-use Rattle.alg_terms.specs.declared.declarations.Kind.TheVariants.{Ring, Domain, Field}
+use Rattle.alg_terms.specs.declared.declarations.Kind.TheVariants.{Ring, Field}
 use Rattle.alg_terms.specs.declared.file.File.{File}
 use Rattle.alg_terms.specs.declared.limits.TheConstants.{MAX_EXPONENT, MAX_POWER, MAX_LIMIT}
 use Rattle.alg_terms.specs.Members.{kind_of, source_of, target_of, sort_of_var, hyp_at}
@@ -20,7 +20,7 @@ use Rattle.alg_reader.specs.declared.raw.RawUse.{RawUse}
 use Rattle.alg_reader.specs.declared.raw.Span.{Span}
 use Rattle.alg_reader.specs.RawTerms.{Node, fold_raw}
 use Rattle.alg_typing.specs.Faults.{fault_if}
-use Rattle.alg_typing.specs.Resolved.{number_at, option_of}
+use Rattle.alg_typing.specs.Resolved.{number_at}
 
 abbrev pub is_ring : Kind → Bool
 is_ring Ring = true

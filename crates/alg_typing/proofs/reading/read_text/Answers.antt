@@ -2,7 +2,6 @@ use Rattle.std.proofs.Common.{refl, sym, subst, All, ◌≡◌, length, Ok}
 use Rattle.std.proofs.lemmas.List.Elements.{All-nil}
 use Rattle.std.proofs.lemmas.Str.{IsCharBoundary-start}
 use Rattle.alg_terms.specs.declared.file.File.{File}
-use Rattle.alg_terms.specs.Valid.{IsValid}
 use Rattle.alg_typing.specs.Ends.{IsByRing}
 use Rattle.alg_typing.specs.Reading.{Reads, no_statements}
 use Rattle.alg_typing.proofs.FirstFaults.{error_tells_nothing}

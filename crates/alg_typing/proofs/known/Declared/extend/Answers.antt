@@ -1,4 +1,4 @@
-use Rattle.std.proofs.Common.{◌≡◌, ℕ, List, [], length, false, OnOk, sym, ◌∙◌, ap, subst}
+use Rattle.std.proofs.Common.{◌≡◌, [], length, false, OnOk, sym, ◌∙◌, ap, subst}
 use Rattle.alg_terms.specs.declared.file.File.{File}
 use Rattle.alg_terms.specs.Valid.{IsValid}
 use Rattle.alg_reader.specs.declared.raw.RawKind.{RawKind}
@@ -9,7 +9,7 @@ use Rattle.alg_typing.specs.Resolved.{extended, vars_of}
 use Rattle.alg_typing.specs.SortFaults.{sort_faults, equation_sorts, may_divide_by}
 use Rattle.alg_typing.proofs.Extended.{extended_is_valid}
 use Rattle.alg_typing.proofs.Faultless.{no_name_faults, no_sort_faults}
-use Rattle.alg_typing.proofs.Small.{small_sides, small_options}
+use Rattle.alg_typing.proofs.Small.{small_sides}
 use Rattle.alg_typing.proofs.VarTables.{both_none}
 use Rattle.alg_typing.proofs.known.Declared.extend.Goals as goal
 

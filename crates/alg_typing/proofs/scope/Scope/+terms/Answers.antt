@@ -1,7 +1,6 @@
-use Rattle.std.proofs.Common.{rules, inl, inr, arith, ◌≤◌}
-use Rattle.std.specs.Int.RustNames.{unsigned_abs}
+use Rattle.std.proofs.Common.{rules, inl, inr}
 use Rattle.alg_reader.specs.declared.raw.RawNode.TheViews.{the_lemmas}
-use Rattle.alg_typing.proofs.RawParts.{small_left, small_right, small_part, small_argument, small_exponent}
+use Rattle.alg_typing.proofs.RawParts.{small_left, small_right, small_part, small_argument}
 use Rattle.alg_typing.proofs.scope.Scope.+terms.Goals as goal
 
 pub term_of-part_of-requires : goal.term_of-part_of-requires

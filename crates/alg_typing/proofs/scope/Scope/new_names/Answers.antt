@@ -1,9 +1,9 @@
-use Rattle.std.proofs.Common.{◌≡◌, ◌||◌, ◌∷◌, ◌∙◌, ap, sym, get_or, is_some, string_bytes, Bool, true, false, refl}
+use Rattle.std.proofs.Common.{◌≡◌, ◌||◌, ◌∷◌, ◌∙◌, ap, sym, get_or, is_some, Bool, true, false}
 use Rattle.std.specs.Prelude.{bytes_eq}
 use Rattle.std.specs.List.{list_any}
 use Rattle.alg_reader.specs.WellRead.{bytes_at}
 use Rattle.alg_typing.specs.Names.{declared_as}
-use Rattle.alg_typing.proofs.NewNames.{HasNames, HasNames-insert, new_names-turn, has_name}
+use Rattle.alg_typing.proofs.NewNames.{HasNames-insert, new_names-turn, has_name}
 use Rattle.alg_typing.proofs.scope.Scope.new_names.Goals as goal
 use Rattle.alg_typing.proofs.scope.Scope.new_names.Goals.{then-is_some, else-is_some}
 

@@ -1,4 +1,4 @@
-use Rattle.std.proofs.Common.{◌≡◌, ℕ, List, [], take, drop, string_bytes}
+use Rattle.std.proofs.Common.{◌≡◌, ℕ, List, [], drop, string_bytes}
 use Rattle.std.specs.Prelude.{bytes_eq}
 use Rattle.std.specs.List.{list_any}
 use Rattle.alg_typing.specs.Faults.{first_of, earlier_of}
