@@ -1,0 +1,95 @@
+#!/usr/bin/env python3
+"""Times the built program on goals of growing size and prints a table. It is no test.
+
+Run from anywhere: bench/bench.py [PROGRAM]. The program is crates/alg_cli/out/alg_cli where none
+is named. Each row: what the file has, its bytes, the exit status, seconds, peak memory in MB.
+"""
+
+import os
+import resource
+import subprocess
+import sys
+import time
+
+TOP = os.path.dirname(os.path.dirname(os.path.abspath(__file__)))
+PROGRAM = sys.argv[1] if len(sys.argv) > 1 else f"{TOP}/crates/alg_cli/out/alg_cli"
+SECONDS = 60
+
+
+def names(count):
+    return [f"x{i}" for i in range(1, count + 1)]
+
+
+def file_of(variables, goals, head="ring R.\n"):
+    declared = f"var {' '.join(variables)} : R.\n"
+    return head + declared + "".join(f"goal {goal} by ring.\n" for goal in goals)
+
+
+def power(count, n):
+    total = " + ".join(names(count))
+    return file_of(names(count), [f"({total})^{n} = ({total})^{n - 1}*({total})"])
+
+
+def product(count):
+    factors = [f"({x} + {k})" for k, x in enumerate(names(count), 1)]
+    return file_of(names(count), ["*".join(factors) + " = " + "*".join(reversed(factors))])
+
+
+def small_goals(count):
+    goals = [f"(x1 + {k})*(x2 - {k}) = x1*x2 - {k}*x1 + {k}*x2 - {k * k}" for k in range(count)]
+    return file_of(names(2), goals)
+
+
+def short_statements(size):
+    text = "ring R.\n"
+    k = 0
+    while len(text) < size:
+        text += f"var v{k} : R.\n"
+        k += 1
+    return text[:size].rsplit(".", 1)[0] + ".\n"
+
+
+def under_paths(depth):
+    head = "ring R.\n" + "".join(f"hom f{i} : R -> R.\n" for i in range(4))
+    image = "x1*x2 + 1"
+    pushed = ["x1", "x2"]
+    for i in range(depth):
+        image = f"f{i % 4}({image})"
+        pushed = [f"f{i % 4}({x})" for x in pushed]
+    return file_of(names(2), [f"{image} = {pushed[0]}*{pushed[1]} + 1"], head)
+
+
+def run(text):
+    before = resource.getrusage(resource.RUSAGE_CHILDREN).ru_maxrss
+    start = time.monotonic()
+    try:
+        done = subprocess.run([PROGRAM, "prove"], input=text.encode(), stdout=subprocess.DEVNULL, timeout=SECONDS)
+        status = str(done.returncode)
+    except subprocess.TimeoutExpired:
+        status = f"over {SECONDS} s"
+    seconds = time.monotonic() - start
+    peak = max(before, resource.getrusage(resource.RUSAGE_CHILDREN).ru_maxrss)
+    return status, seconds, peak / 1024
+
+
+def main():
+    if not os.path.exists(PROGRAM):
+        print(f"{PROGRAM} is not there: build it by ./alg prove < examples/square.alg", file=sys.stderr)
+        return 1
+    rows = [
+        ("1 MB of short statements", short_statements(1_000_000)),
+        ("3,000 small goals", small_goals(3_000)),
+        ("a goal under 50 morphisms", under_paths(50)),
+        ("a goal under 190 morphisms", under_paths(190)),
+    ]
+    rows += [(f"(x1 + .. + x5)^{n}, two ways", power(5, n)) for n in (6, 12, 18, 24)]
+    rows += [(f"product of {count} unknowns, both ways round", product(count)) for count in (8, 10, 12, 14, 16)]
+    print(f"{'what':44} {'bytes':>8} {'status':>9} {'seconds':>8} {'peak MB':>8}")
+    for what, text in rows:
+        status, seconds, peak = run(text)
+        print(f"{what:44} {len(text):8} {status:>9} {seconds:8.2f} {peak:8.0f}", flush=True)
+    return 0
+
+
+if __name__ == "__main__":
+    sys.exit(main())
