@@ -277,7 +277,7 @@ fn no_more_than_200_parentheses_may_be_open(rt: HostRuntime) -> Result<(), Fail>
     Ok(())
 }
 
-/// A file with so many variables, and one goal: their sum, in groups of forty, is 0.
+/// A file with so many variables, and one goal: their sum, in groups of thirty, is 0.
 fn sum_of_variables(alloc: Global, count: u32) -> Result<Vec<u8>, Fail> {
     let mut file = Vec::from_slice(alloc, b"ring R.\nvar")?;
     for k in 0..count {
@@ -286,9 +286,9 @@ fn sum_of_variables(alloc: Global, count: u32) -> Result<Vec<u8>, Fail> {
     }
     file.extend_from_slice(b" : R.\ngoal x0")?;
     for k in 1..count {
-        let between = if k % 40 != 0 {
+        let between = if k % 30 != 0 {
             " + "
-        } else if k == 40 {
+        } else if k == 30 {
             " + ("
         } else {
             ") + ("

@@ -14,7 +14,7 @@ enum Found {
 }
 
 /// What these bytes are, which are not too many.
-fn found(alloc: Global, bytes: &[u8]) -> Found {
+fn read(alloc: Global, bytes: &[u8]) -> Found {
     if bytes.len() > 16_777_216 {
         return Found::NoMemory;
     }
@@ -47,7 +47,7 @@ fn files(rt: HostRuntime) {
         ),
     ] {
         assert!(rt;
-            found(rt.alloc(), text.as_bytes()) == Found::File(statements),
+            read(rt.alloc(), text.as_bytes()) == Found::File(statements),
             "{text}"
         );
     }
@@ -110,7 +110,7 @@ fn first_faults(rt: HostRuntime) {
         ),
     ] {
         assert!(rt;
-            found(rt.alloc(), text.as_bytes()) == Found::Fault(code, at),
+            read(rt.alloc(), text.as_bytes()) == Found::Fault(code, at),
             "{text}"
         );
     }
@@ -119,12 +119,12 @@ fn first_faults(rt: HostRuntime) {
 #[test]
 fn bytes_that_are_no_text(rt: HostRuntime) {
     assert!(rt;
-        found(rt.alloc(), b"\xff") == Found::Fault(1, 0),
+        read(rt.alloc(), b"\xff") == Found::Fault(1, 0),
         "the first byte"
     );
     // the fault of a statement before it comes later
     assert!(rt;
-        found(rt.alloc(), b"var x : R. \xc3") == Found::Fault(1, 11),
+        read(rt.alloc(), b"var x : R. \xc3") == Found::Fault(1, 11),
         "a character's half"
     );
 }
@@ -143,12 +143,12 @@ fn long_sum(alloc: Global, count: u32) -> Result<Vec<u8>, AllocError> {
 fn depth_comes_before_names(rt: HostRuntime) -> Result<(), AllocError> {
     let most = long_sum(rt.alloc(), 1000)?;
     assert!(rt;
-        found(rt.alloc(), most.as_slice()) == Found::Fault(7, 2026),
+        read(rt.alloc(), most.as_slice()) == Found::Fault(7, 2026),
         "1,000 are not too deep"
     );
     let deep = long_sum(rt.alloc(), 1001)?;
     assert!(rt;
-        found(rt.alloc(), deep.as_slice()) == Found::Fault(11, 2023),
+        read(rt.alloc(), deep.as_slice()) == Found::Fault(11, 2023),
         "1,001 are"
     );
     Ok(())
