@@ -1,10 +1,8 @@
 -- From what a sink took to what a run wrote.
-use Rattle.std.proofs.Common.{◌≡◌, ◌⊎◌, inl, inr, ◌<◌, ◌≤◌, ℕ, List, Option, None, Some, length, map, codes, refl, sym, ap, ◌∙◌, subst, arith, String}
+use Rattle.std.proofs.Common.{◌≡◌, ◌⊎◌, inl, inr, ◌<◌, ℕ, List, Option, None, Some, length, map, codes, refl, sym, ap, ◌∙◌, subst, arith, String}
 use Rattle.std.specs.Prelude.{IfSome, Ok, Err}
 use Rattle.std.specs.declared.alloc.Global.{Global}
-use Rattle.alg_outside.specs.Bytes.{Gains, LosesAll, IsAtEnd}
-use Rattle.alg_tokens.specs.declared.token.Refusal.{Refusal}
-use Rattle.alg_terms.specs.declared.file.File.{File}
+use Rattle.alg_outside.specs.Bytes.{Gains, LosesAll}
 use Rattle.alg_universe.specs.declared.universe.Universe.{Ghosts}
 use Rattle.alg_typing.specs.Laws.{OneReading}
 use Rattle.alg_printer.specs.Text.{text_of}
@@ -12,7 +10,7 @@ use Rattle.alg_prover.specs.Answers.{AreAnswers}
 use Rattle.alg_prover.specs.Laws.{OneAnswer}
 use Rattle.alg_cli.specs.declared.status.Status.{Status}
 use Rattle.alg_cli.specs.declared.status.Status.TheVariants.{Done, NotAll, Refused, Usage, ReadFault, WriteFault, NoMemory}
-use Rattle.alg_cli.specs.Replies.{IsReplyTo, IsTooLarge, IsRefused, IsAnswered, most_bytes, refusal_text, status_of}
+use Rattle.alg_cli.specs.Replies.{IsReplyTo, IsRefused, IsAnswered, most_bytes, refusal_text, status_of}
 use Rattle.alg_cli.specs.Runs.{IsProve, IsReply, Written, Wrote, WroteAll, WroteFront, IsAfterAll, IsEnding}
 
 -- all of a text was written with the planned status, or a front of it and the count of faults rose

@@ -1,4 +1,4 @@
-use Rattle.std.proofs.Common.{◌≡◌, List, [], ◌∷◌, String, string_bytes, length, get_or, map, refl, ap, sym, ◌∙◌, rules, arith, codes}
+use Rattle.std.proofs.Common.{◌≡◌, List, [], ◌∷◌, String, string_bytes, length, get_or, map, ap, sym, ◌∙◌, arith, codes}
 use Rattle.std.specs.declared.alloc.Global.{Global}
 use Rattle.std.proofs.lemmas.Slice.Eq.{bytes_eq-Decides}
 use Rattle.alg_cli.proofs.top.is_prove.Goals as goal

@@ -1,5 +1,4 @@
-use Rattle.std.proofs.Common.{◌≡◌, ◌<◌, List, ℕ, length, codes, ap, ◌∙◌, sym, subst, Err}
-use Rattle.std.specs.Prelude.{IfSome}
+use Rattle.std.proofs.Common.{◌≡◌, ◌<◌, length, codes, ap, ◌∙◌, sym, subst, Err}
 use Rattle.alg_cli.specs.declared.status.Status.TheVariants.{Refused, Usage}
 use Rattle.alg_cli.specs.Replies.{IsReplyTo, most_bytes}
 use Rattle.alg_cli.specs.Runs.{IsReply}

@@ -1,0 +1,29 @@
+-- The law that the canonical text of a file reads back as the file.
+use Rattle.std.specs.Prelude.{◌≡◌, ◌≤◌, ◌+◌, ◌-◌, ◌==◌, ℕ, if◌then◌else◌, max, List, [], ◌∷◌, All, Ok}
+use Rattle.alg_printer.specs.Text.{text_of, statement_text}
+use Rattle.alg_terms.specs.declared.file.File.{File}
+use Rattle.alg_terms.specs.declared.goals.Method.TheVariants.{ByRing}
+use Rattle.alg_terms.specs.Valid.{IsValid}
+use Rattle.alg_typing.specs.Reading.{IsReadingOf}
+
+-- how many parentheses are open after a byte
+abbrev pub open_with : ℕ → ℕ → ℕ
+open_with depth byte = if byte == 40 then depth + 1 else (if byte == 41 then depth - 1 else depth)
+
+-- the most parentheses that are open at once in a text, where so many are open before it
+abbrev pub most_open : ℕ → List ℕ → ℕ
+most_open depth [] = depth
+most_open depth (byte ∷ text) = max depth (most_open (open_with depth byte) text)
+
+-- no statement of the file's text has more than 200 parentheses open at once
+abbrev pub OpensFew : File → Type 0
+OpensFew file = All (λ s. most_open 0 (statement_text file [] s) ≤ 200) file.order
+
+-- each of its statements can be read today: it has no hypotheses, and its goals are by ring
+pub record IsReadToday (file : File) : Type 0 where
+  pub hyps : file.hyps ≡ []
+  pub goals : All (λ goal. goal.method ≡ ByRing) file.goals
+
+-- the text of such a file without answers reads as the file
+abbrev pub ReadsBack : Type 0
+ReadsBack = (file : File) → IsValid file → OpensFew file → IsReadToday file → IsReadingOf (text_of file []) (Ok file)
