@@ -98,7 +98,8 @@ module _ (file : File) (valid : IsValid file) (before : List Statement) where
       let at_k : (P : Name → Type 0) → AllByRecursion P homs → P name =
       λ P h. subst P there (at_place P homs k [] h inside) in
       let own = new_prefix (λ hom. hom.name) file.homs k no_hom (distinct_right sorts homs two) low in
-      let to_sorts = subst (λ n. IsNew n sorts) there (apart_at sorts homs k [] (distinct_apart sorts homs two) inside) in
+      let to_sorts = subst (λ n. IsNew n sorts) there
+      (apart_at sorts homs k [] (distinct_apart sorts homs two) inside) in
       let to_vars = at_k (λ n. IsNew n vars)
       (recursion_right (λ n. IsNew n vars) sorts homs (distinct_apart (sorts ++ homs) vars three)) in
       let to_hyps = at_k (λ n. IsNew n hyps) (recursion_right (λ n. IsNew n hyps) sorts homs
@@ -122,8 +123,10 @@ module _ (file : File) (valid : IsValid file) (before : List Statement) where
       let to_both = subst (λ n. IsNew n (sorts ++ homs)) there
       (apart_at (sorts ++ homs) vars k [] (distinct_apart (sorts ++ homs) vars three) inside) in
       let to_hyps = at_k (λ n. IsNew n hyps)
-      (recursion_right (λ n. IsNew n hyps) (sorts ++ homs) vars (distinct_apart ((sorts ++ homs) ++ vars) hyps all)) in (
-        new_to_front name (new_take (λ sort. sort.name) name file.sorts (sorts_in before) (recursion_left P sorts homs to_both))
+      (recursion_right (λ n. IsNew n hyps) (sorts ++ homs) vars (distinct_apart ((sorts ++ homs) ++ vars) hyps all))
+      in (
+        new_to_front name (new_take (λ sort. sort.name) name file.sorts (sorts_in before)
+        (recursion_left P sorts homs to_both))
             (new_take (λ hom. hom.name) name file.homs (homs_in before) (recursion_right P sorts homs to_both))
             (new_fewer name file.vars (vars_in before) k here own) to_hyps,
         own,

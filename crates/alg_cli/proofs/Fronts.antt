@@ -62,7 +62,8 @@ rising_middle (x ∷ xs) ys zs first (suc count) same =
 -- the numbers of one list that a statement declares, behind those of the statements before it
 abbrev pub Continues : (Statement → List ℕ) → List Statement → Statement → ℕ → Type 0
 Continues f before s count =
-    (f s ≡ numbers_from (length (flat_map f before)) (length (f s))) × (length (flat_map f before) + length (f s) ≤ count)
+    (f s ≡ numbers_from (length (flat_map f before)) (length (f s))) ×
+    (length (flat_map f before) + length (f s) ≤ count)
 
 continues : (f : Statement → List ℕ) (order before after : List Statement) (s : Statement) (count : ℕ) →
     order ≡ before ++ (s ∷ after) → flat_map f order ≡ numbers_from 0 count → Continues f before s count
@@ -85,11 +86,16 @@ pub next : (file : File) → IsOrdered file → (before after : List Statement) 
 next file ordered before after s split =
     let all = ordered.once_rising in
     record {
-      sorts = continues (λ s. (declared_by s).sorts) file.order before after s (length file.sorts) split (ap (λ m. m.sorts) all);
-      homs = continues (λ s. (declared_by s).homs) file.order before after s (length file.homs) split (ap (λ m. m.homs) all);
-      vars = continues (λ s. (declared_by s).vars) file.order before after s (length file.vars) split (ap (λ m. m.vars) all);
-      hyps = continues (λ s. (declared_by s).hyps) file.order before after s (length file.hyps) split (ap (λ m. m.hyps) all);
-      goals = continues (λ s. (declared_by s).goals) file.order before after s (length file.goals) split (ap (λ m. m.goals) all);
+      sorts = continues (λ s. (declared_by s).sorts) file.order before after s (length file.sorts) split
+          (ap (λ m. m.sorts) all);
+      homs = continues (λ s. (declared_by s).homs) file.order before after s (length file.homs) split
+          (ap (λ m. m.homs) all);
+      vars = continues (λ s. (declared_by s).vars) file.order before after s (length file.vars) split
+          (ap (λ m. m.vars) all);
+      hyps = continues (λ s. (declared_by s).hyps) file.order before after s (length file.hyps) split
+          (ap (λ m. m.hyps) all);
+      goals = continues (λ s. (declared_by s).goals) file.order before after s (length file.goals) split
+          (ap (λ m. m.goals) all);
     }
 
 -- a list's first items are those of the list

@@ -5,7 +5,10 @@ pub mod DerivedStatements
 pub mod DerivedTerms
 pub mod FileTokens
 pub mod Fresh
+pub mod FilesBack
+pub mod FrontNames
 pub mod Fronts
+pub mod GoalsBack
 pub mod LaidStatements
 pub mod LaidTerms
 pub mod OpenBytes
@@ -23,5 +26,7 @@ pub mod StandingStatements
 pub mod StandingTerms
 pub mod StatementsRead
 pub mod Steps
+pub mod Taken
 pub mod TermsBack
+pub mod Utf8Text
 pub mod Writing

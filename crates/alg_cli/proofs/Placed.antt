@@ -27,6 +27,22 @@ placed_right text at (x ∷ xs) ys h =
     let there : (at + length (bytes_of x)) + width xs ≡ at + width (x ∷ xs) = omega arith in
     subst (λ k. Placed text k ys) there (placed_right text (at + length (bytes_of x)) xs ys h.1)
 
+-- what stands at each piece's place stands there together
+pub placed_all : (text : List ℕ) (at : ℕ) (pieces : List Piece) → ((front back : List Piece) (piece : Piece) →
+    pieces ≡ front ++ (piece ∷ back) → take (length (bytes_of piece)) (drop (at + width front) text) ≡ bytes_of piece) →
+    Placed text at pieces
+placed_all text at [] there = tt
+placed_all text at (piece ∷ pieces) there =
+    let bytes = bytes_of piece in
+    let here : at + width [] ≡ at = omega arith in (
+      subst (λ k. take (length bytes) (drop k text) ≡ bytes) here (there [] pieces piece refl),
+      placed_all text (at + length bytes) pieces (λ front back other e.
+          let long = length (bytes_of other) in
+          let place : at + width (piece ∷ front) ≡ (at + length bytes) + width front = omega arith in
+          subst (λ k. take long (drop k text) ≡ bytes_of other) place
+          (there (piece ∷ front) back other (ap (λ ps. piece ∷ ps) e))),
+    )
+
 -- the bytes of a span are those of the piece that stands there
 pub span_bytes : (text : List ℕ) (at : ℕ) (kind : TokenKind) (bytes : List ℕ) (pieces : List Piece) →
     Placed text at (Lexeme kind bytes ∷ pieces) → bytes_at text (span at bytes) ≡ bytes

@@ -10,7 +10,7 @@ use Rattle.alg_terms.specs.Members.{kind_of, source_of, target_of}
 use Rattle.alg_terms.specs.Nodes.{fold_term, EachNode}
 use Rattle.alg_terms.specs.Sorts.{own_sort, Agree}
 use Rattle.alg_terms.specs.TermRules.{IsInRange, HasExponent, HasAgreeingParts, HasFittingArgument, IsNoQuotient}
-use Rattle.alg_terms.specs.Valid.{IsValid}
+use Rattle.alg_terms.specs.Valid.{names_of}
 use Rattle.alg_tokens.specs.declared.token.Sign.{Sign}
 use Rattle.alg_tokens.specs.declared.token.Sign.TheVariants as signs
 use Rattle.alg_tokens.specs.declared.token.TokenKind.TheVariants as kinds
@@ -23,6 +23,7 @@ use Rattle.alg_reader.specs.RawTerms.{fold_under}
 use Rattle.alg_typing.specs.Faults.{fault_if}
 use Rattle.alg_typing.specs.Resolved.{term_of}
 use Rattle.alg_typing.specs.SortFaults.{sorted, differ, operator, image, is_field}
+use Rattle.alg_typing.proofs.FreshNames.{AreDistinct}
 use Rattle.alg_typing.proofs.Growing.{Grows}
 use Rattle.alg_typing.proofs.Induction.{induction}
 use Rattle.alg_typing.proofs.Resolving.{own_resolved}
@@ -32,13 +33,13 @@ use Rattle.alg_cli.proofs.Placed.{Placed, placed_left, placed_right, part_as, sp
 use Rattle.alg_cli.proofs.TermsBack.{term_back, hom_used}
 
 -- own sorts that agree don't differ
-never_differ : (a b : Option ℕ) → Agree a b → differ a b ≡ false
+pub never_differ : (a b : Option ℕ) → Agree a b → differ a b ≡ false
 never_differ None b h = refl
 never_differ (Some s) None h = refl
 never_differ (Some s) (Some t) h = grind (arith, nat_tests)
 
 -- a fault without a cause is none
-no_cause : (there : Bool) (code at : ℕ) → there ≡ false → fault_if there code at ≡ []
+pub no_cause : (there : Bool) (code at : ℕ) → there ≡ false → fault_if there code at ≡ []
 no_cause true code at h = absurd (cc)
 no_cause false code at h = refl
 
@@ -50,7 +51,7 @@ pub record Rules (g : File) (t : Term) : Type 0 where
   pub arguments : EachNode (HasFittingArgument g) t
   pub plain : EachNode IsNoQuotient t
 
-module _ (file g : File) (text : List ℕ) (valid : IsValid g) (grows : Grows g file) where
+module _ (file g : File) (text : List ℕ) (distinct : AreDistinct (names_of g)) (grows : Grows g file) where
   -- the raw term resolves to the term, and has no faults at any final sort
   pub record IsClear (t : Term) (raw : RawTerm) : Type 0 where
     pub back : term_of g text raw ≡ t
@@ -64,7 +65,7 @@ module _ (file g : File) (text : List ℕ) (valid : IsValid g) (grows : Grows g 
   part_clear t l wanted at clear placed = part_as text (IsClear t) l wanted at clear placed
 
   -- own sorts of raw terms that resolve to terms of sorts that agree don't differ
-  own_same : (t : Term) (raw : RawTerm) → term_of g text raw ≡ t → (sorted g text false raw).own ≡ own_sort g t
+  pub own_same : (t : Term) (raw : RawTerm) → term_of g text raw ≡ t → (sorted g text false raw).own ≡ own_sort g t
   own_same t raw back = own_resolved g text false raw.head raw.node ∙ ap (own_sort g) back
 
   sorts_agree : (t u : Term) (l r : RawTerm) → term_of g text l ≡ t → term_of g text r ≡ u →
@@ -95,7 +96,8 @@ module _ (file g : File) (text : List ℕ) (valid : IsValid g) (grows : Grows g 
             ∙ ap (λ x. x ++ right.faults final in_fields) (p.clear final in_fields) ∙ q.clear final in_fields;
       }
 
-  spaced_clear : (op : Sign) (node : RawTerm → RawTerm → RawNode) (build : Term → Term → Term) → length (sign_spelling op) ≡ 1 →
+  spaced_clear : (op : Sign) (node : RawTerm → RawTerm → RawNode) (build : Term → Term → Term) →
+      length (sign_spelling op) ≡ 1 →
       IsOperator node build → (t u : Term) (l r : Laid) → Agree (own_sort g t) (own_sort g u) → StaysClear t l →
       StaysClear u r → StaysClear (build t u) (spaced op node l r)
   spaced_clear op node build one is t u l r agree back back' at placed =
@@ -107,7 +109,8 @@ module _ (file g : File) (text : List ℕ) (valid : IsValid g) (grows : Grows g 
       two_clear node build is t u (at + w + 1) (part_raw 1 l at) (part_raw 2 r ((at + w + 1) + 2)) agree
       (part_clear t l 1 at back left) (part_clear u r 2 ((at + w + 1) + 2) back' right)
 
-  tight_clear : (op : Sign) (node : RawTerm → RawTerm → RawNode) (build : Term → Term → Term) → length (sign_spelling op) ≡ 1 →
+  tight_clear : (op : Sign) (node : RawTerm → RawTerm → RawNode) (build : Term → Term → Term) →
+      length (sign_spelling op) ≡ 1 →
       IsOperator node build → (t u : Term) (l r : Laid) → Agree (own_sort g t) (own_sort g u) → StaysClear t l →
       StaysClear u r → StaysClear (build t u) (tight op node l r)
   tight_clear op node build one is t u l r agree back back' at placed =
@@ -120,15 +123,18 @@ module _ (file g : File) (text : List ℕ) (valid : IsValid g) (grows : Grows g 
       (part_clear t l 2 at back left) (part_clear u r 3 ((at + w) + 1) back' right)
 
   is_add : IsOperator raw.Add Add
-  unfolding fold_under Rattle.alg_reader.specs.declared.raw.RawNode.TheBlock.hidden-the_row-RawTerm-0 denote.Hole.Carrier.hidden
+  unfolding fold_under Rattle.alg_reader.specs.declared.raw.RawNode.TheBlock.hidden-the_row-RawTerm-0
+  denote.Hole.Carrier.hidden
   is_add head l r = (refl, refl)
 
   is_sub : IsOperator raw.Sub Sub
-  unfolding fold_under Rattle.alg_reader.specs.declared.raw.RawNode.TheBlock.hidden-the_row-RawTerm-0 denote.Hole.Carrier.hidden
+  unfolding fold_under Rattle.alg_reader.specs.declared.raw.RawNode.TheBlock.hidden-the_row-RawTerm-0
+  denote.Hole.Carrier.hidden
   is_sub head l r = (refl, refl)
 
   is_mul : IsOperator raw.Mul Mul
-  unfolding fold_under Rattle.alg_reader.specs.declared.raw.RawNode.TheBlock.hidden-the_row-RawTerm-0 denote.Hole.Carrier.hidden
+  unfolding fold_under Rattle.alg_reader.specs.declared.raw.RawNode.TheBlock.hidden-the_row-RawTerm-0
+  denote.Hole.Carrier.hidden
   is_mul head l r = (refl, refl)
 
   abbrev Clear : Term → Type 0
@@ -137,7 +143,8 @@ module _ (file g : File) (text : List ℕ) (valid : IsValid g) (grows : Grows g 
   var_clear : (k : ℕ) → Clear (Var k)
   unfolding fold_term fold_under
   var_clear k rules at placed =
-      record { back = (term_back file g text valid grows (Var k) rules.range at placed).0; clear = λ final in_fields. refl }
+      record { back = (term_back file g text distinct grows (Var k) rules.range at placed).0; clear =
+      λ final in_fields. refl }
 
   int_clear : (n : ℤ) → Clear (Int n)
   unfolding fold_term fold_under
@@ -193,7 +200,7 @@ module _ (file g : File) (text : List ℕ) (valid : IsValid g) (grows : Grows g 
         arguments = rules.arguments.1;
         plain = rules.plain.1;
       } in
-      let (number, used) = hom_used file g text valid grows f (span at name) rules.range.0
+      let (number, used) = hom_used file g text distinct grows f (span at name) rules.range.0
       (span_bytes text at kinds.Name name (in_parentheses l.pieces) placed) in
       let place = at + length name + 1 in
       let part = clear below place (placed_left text place l.pieces (sign signs.ParenRight ∷ []) placed.1.1) in
@@ -232,10 +239,12 @@ module _ (file g : File) (text : List ℕ) (valid : IsValid g) (grows : Grows g 
   )
 
   add_clear : (t u : Term) → Clear t → Clear u → Clear (Add t u)
-  unfolding fold_term EachNode Rattle.alg_terms.specs.declared.term.Term.TheBlock.hidden-the_row-Term-0 denote.Hole.Carrier.hidden
+  unfolding fold_term EachNode Rattle.alg_terms.specs.declared.term.Term.TheBlock.hidden-the_row-Term-0
+  denote.Hole.Carrier.hidden
   add_clear t u clear clear' rules =
       let (left, right) = add_rules t u rules in
-      spaced_clear signs.Plus raw.Add Add refl is_add t u (laid file t) (laid file u) rules.parts.0 (clear left) (clear' right)
+      spaced_clear signs.Plus raw.Add Add refl is_add t u (laid file t) (laid file u) rules.parts.0 (clear left)
+      (clear' right)
 
   sub_rules : (t u : Term) → Rules g (Sub t u) → Rules g t × Rules g u
   unfolding EachNode Rattle.alg_terms.specs.declared.term.Term.TheBlock.hidden-the_row-Term-0 denote.Hole.Carrier.hidden
@@ -257,10 +266,12 @@ module _ (file g : File) (text : List ℕ) (valid : IsValid g) (grows : Grows g 
   )
 
   sub_clear : (t u : Term) → Clear t → Clear u → Clear (Sub t u)
-  unfolding fold_term EachNode Rattle.alg_terms.specs.declared.term.Term.TheBlock.hidden-the_row-Term-0 denote.Hole.Carrier.hidden
+  unfolding fold_term EachNode Rattle.alg_terms.specs.declared.term.Term.TheBlock.hidden-the_row-Term-0
+  denote.Hole.Carrier.hidden
   sub_clear t u clear clear' rules =
       let (left, right) = sub_rules t u rules in
-      spaced_clear signs.Minus raw.Sub Sub refl is_sub t u (laid file t) (laid file u) rules.parts.0 (clear left) (clear' right)
+      spaced_clear signs.Minus raw.Sub Sub refl is_sub t u (laid file t) (laid file u) rules.parts.0 (clear left)
+      (clear' right)
 
   mul_rules : (t u : Term) → Rules g (Mul t u) → Rules g t × Rules g u
   unfolding EachNode Rattle.alg_terms.specs.declared.term.Term.TheBlock.hidden-the_row-Term-0 denote.Hole.Carrier.hidden
@@ -282,10 +293,12 @@ module _ (file g : File) (text : List ℕ) (valid : IsValid g) (grows : Grows g 
   )
 
   mul_clear : (t u : Term) → Clear t → Clear u → Clear (Mul t u)
-  unfolding fold_term EachNode Rattle.alg_terms.specs.declared.term.Term.TheBlock.hidden-the_row-Term-0 denote.Hole.Carrier.hidden
+  unfolding fold_term EachNode Rattle.alg_terms.specs.declared.term.Term.TheBlock.hidden-the_row-Term-0
+  denote.Hole.Carrier.hidden
   mul_clear t u clear clear' rules =
       let (left, right) = mul_rules t u rules in
-      tight_clear signs.Star raw.Mul Mul refl is_mul t u (laid file t) (laid file u) rules.parts.0 (clear left) (clear' right)
+      tight_clear signs.Star raw.Mul Mul refl is_mul t u (laid file t) (laid file u) rules.parts.0 (clear left)
+      (clear' right)
 
   div_clear : (t u : Term) → Clear t → Clear u → Clear (Div t u)
   unfolding EachNode Rattle.alg_terms.specs.declared.term.Term.TheBlock.hidden-the_row-Term-0 denote.Hole.Carrier.hidden

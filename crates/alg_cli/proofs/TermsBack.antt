@@ -6,7 +6,7 @@ use Rattle.alg_terms.specs.declared.term.Term.{Term}
 use Rattle.alg_terms.specs.declared.term.Term.TheVariants.{Var, Int, Neg, Add, Sub, Mul, Div, Pow, Hom}
 use Rattle.alg_terms.specs.Nodes.{fold_term, EachNode}
 use Rattle.alg_terms.specs.TermRules.{IsInRange}
-use Rattle.alg_terms.specs.Valid.{IsValid}
+use Rattle.alg_terms.specs.Valid.{names_of}
 use Rattle.alg_tokens.specs.declared.token.Sign.{Sign}
 use Rattle.alg_tokens.specs.declared.token.Sign.TheVariants as signs
 use Rattle.alg_tokens.specs.declared.token.TokenKind.TheVariants as kinds
@@ -24,26 +24,28 @@ use Rattle.alg_typing.specs.NameFaults.{term_names, used_name, misuse}
 use Rattle.alg_typing.specs.Names.{declared_as, is_var, is_hom, number_of}
 use Rattle.alg_typing.specs.Resolved.{number_at, term_of}
 use Rattle.alg_typing.proofs.DeclaredNames.{declared_var, declared_hom}
+use Rattle.alg_typing.proofs.FreshNames.{AreDistinct}
 use Rattle.alg_typing.proofs.Growing.{Grows}
 use Rattle.alg_typing.proofs.Induction.{induction}
 use Rattle.alg_printer.specs.Names.{var_name, hom_name}
 use Rattle.alg_cli.proofs.LaidTerms.{Laid, laid, raw_at, spaced, tight, space, sign, numeral, part_pieces, part_raw, in_parentheses, span}
 use Rattle.alg_cli.proofs.Placed.{Placed, placed_left, placed_right, part_as, span_bytes}
 
-module _ (file g : File) (text : List ℕ) (valid : IsValid g) (grows : Grows g file) where
+module _ (file g : File) (text : List ℕ) (distinct : AreDistinct (names_of g)) (grows : Grows g file) where
   -- a name of the file that the front has too is declared there as it is in the file
   var_found : (k : ℕ) (name : Span) → k < length g.vars → bytes_at text name ≡ var_name file k →
       declared_as g (bytes_at text name) ≡ Some (declaration.Var k)
   var_found k name low same =
-      ap (declared_as g) (same ∙ ap (λ var. var.name) (grows.vars k low)) ∙ declared_var g valid k low
+      ap (declared_as g) (same ∙ ap (λ var. var.name) (grows.vars k low)) ∙ declared_var g distinct k low
 
   hom_found : (f : ℕ) (name : Span) → f < length g.homs → bytes_at text name ≡ hom_name file f →
       declared_as g (bytes_at text name) ≡ Some (declaration.Hom f)
   hom_found f name low same =
-      ap (declared_as g) (same ∙ ap (λ hom. hom.name) (grows.homs f low)) ∙ declared_hom g valid f low
+      ap (declared_as g) (same ∙ ap (λ hom. hom.name) (grows.homs f low)) ∙ declared_hom g distinct f low
 
   -- its number is the member's, and it has no fault
-  number_is : (d : Declaration) (name : Span) → declared_as g (bytes_at text name) ≡ Some d → number_at g text name ≡ number_of d
+  number_is : (d : Declaration) (name : Span) → declared_as g (bytes_at text name) ≡ Some d →
+      number_at g text name ≡ number_of d
   number_is d name found = ap (λ o. option_map_or number_of o 0) found
 
   pub var_used : (k : ℕ) (name : Span) → k < length g.vars → bytes_at text name ≡ var_name file k →
@@ -85,7 +87,8 @@ module _ (file g : File) (text : List ℕ) (valid : IsValid g) (grows : Grows g 
         names ∙ ap (λ x. x ++ term_names g text r) a ∙ b,
       )
 
-  spaced_back : (op : Sign) (node : RawTerm → RawTerm → RawNode) (build : Term → Term → Term) → length (sign_spelling op) ≡ 1 →
+  spaced_back : (op : Sign) (node : RawTerm → RawTerm → RawNode) (build : Term → Term → Term) →
+      length (sign_spelling op) ≡ 1 →
       IsNodeOfTwo node build → (t u : Term) (l r : Laid) → ComesBack t l → ComesBack u r →
       ComesBack (build t u) (spaced op node l r)
   spaced_back op node build one is t u l r back back' at placed =
@@ -97,7 +100,8 @@ module _ (file g : File) (text : List ℕ) (valid : IsValid g) (grows : Grows g 
       two_back node build is t u (at + w + 1) (part_raw 1 l at) (part_raw 2 r ((at + w + 1) + 2))
       (part_back t l 1 at back left) (part_back u r 2 ((at + w + 1) + 2) back' right)
 
-  tight_back : (op : Sign) (node : RawTerm → RawTerm → RawNode) (build : Term → Term → Term) → length (sign_spelling op) ≡ 1 →
+  tight_back : (op : Sign) (node : RawTerm → RawTerm → RawNode) (build : Term → Term → Term) →
+      length (sign_spelling op) ≡ 1 →
       IsNodeOfTwo node build → (t u : Term) (l r : Laid) → ComesBack t l → ComesBack u r →
       ComesBack (build t u) (tight op node l r)
   tight_back op node build one is t u l r back back' at placed =
@@ -111,19 +115,23 @@ module _ (file g : File) (text : List ℕ) (valid : IsValid g) (grows : Grows g 
 
   -- each operator is one
   is_add : IsNodeOfTwo raw.Add Add
-  unfolding fold_under Rattle.alg_reader.specs.declared.raw.RawNode.TheBlock.hidden-the_row-RawTerm-0 denote.Hole.Carrier.hidden
+  unfolding fold_under Rattle.alg_reader.specs.declared.raw.RawNode.TheBlock.hidden-the_row-RawTerm-0
+  denote.Hole.Carrier.hidden
   is_add head l r = (refl, refl)
 
   is_sub : IsNodeOfTwo raw.Sub Sub
-  unfolding fold_under Rattle.alg_reader.specs.declared.raw.RawNode.TheBlock.hidden-the_row-RawTerm-0 denote.Hole.Carrier.hidden
+  unfolding fold_under Rattle.alg_reader.specs.declared.raw.RawNode.TheBlock.hidden-the_row-RawTerm-0
+  denote.Hole.Carrier.hidden
   is_sub head l r = (refl, refl)
 
   is_mul : IsNodeOfTwo raw.Mul Mul
-  unfolding fold_under Rattle.alg_reader.specs.declared.raw.RawNode.TheBlock.hidden-the_row-RawTerm-0 denote.Hole.Carrier.hidden
+  unfolding fold_under Rattle.alg_reader.specs.declared.raw.RawNode.TheBlock.hidden-the_row-RawTerm-0
+  denote.Hole.Carrier.hidden
   is_mul head l r = (refl, refl)
 
   is_div : IsNodeOfTwo raw.Div Div
-  unfolding fold_under Rattle.alg_reader.specs.declared.raw.RawNode.TheBlock.hidden-the_row-RawTerm-0 denote.Hole.Carrier.hidden
+  unfolding fold_under Rattle.alg_reader.specs.declared.raw.RawNode.TheBlock.hidden-the_row-RawTerm-0
+  denote.Hole.Carrier.hidden
   is_div head l r = (refl, refl)
 
   abbrev Back : Term → Type 0
@@ -132,7 +140,8 @@ module _ (file g : File) (text : List ℕ) (valid : IsValid g) (grows : Grows g 
   var_back : (k : ℕ) → Back (Var k)
   unfolding fold_term fold_under EachNode
   var_back k r at placed =
-      let (number, used) = var_used k (span at (var_name file k)) r (span_bytes text at kinds.Name (var_name file k) [] placed) in
+      let (number, used) =
+      var_used k (span at (var_name file k)) r (span_bytes text at kinds.Name (var_name file k) [] placed) in
       (ap Var number, ap (λ names. names ++ []) used)
 
   int_back : (n : ℤ) → Back (Int n)
@@ -159,7 +168,8 @@ module _ (file g : File) (text : List ℕ) (valid : IsValid g) (grows : Grows g 
   hom_back f t back r at placed =
       let name = hom_name file f in
       let l = laid file t in
-      let (number, used) = hom_used f (span at name) r.0 (span_bytes text at kinds.Name name (in_parentheses l.pieces) placed) in
+      let (number, used) =
+      hom_used f (span at name) r.0 (span_bytes text at kinds.Name name (in_parentheses l.pieces) placed) in
       let inside = placed_left text ((at + length name) + 1) l.pieces (sign signs.ParenRight ∷ []) placed.1.1 in
       let (made, names) = back r.1 (at + length name + 1) inside in (
         ap (λ k. Hom k (term_of g text (l.raw (at + length name + 1)))) number ∙ ap (Hom f) made,
@@ -167,20 +177,28 @@ module _ (file g : File) (text : List ℕ) (valid : IsValid g) (grows : Grows g 
       )
 
   add_back : (t u : Term) → Back t → Back u → Back (Add t u)
-  unfolding fold_term EachNode Rattle.alg_terms.specs.declared.term.Term.TheBlock.hidden-the_row-Term-0 denote.Hole.Carrier.hidden
-  add_back t u back back' r = spaced_back signs.Plus raw.Add Add refl is_add t u (laid file t) (laid file u) (back r.1) (back' r.2)
+  unfolding fold_term EachNode Rattle.alg_terms.specs.declared.term.Term.TheBlock.hidden-the_row-Term-0
+  denote.Hole.Carrier.hidden
+  add_back t u back back' r = spaced_back signs.Plus raw.Add Add refl is_add t u (laid file t) (laid file u) (back r.1)
+      (back' r.2)
 
   sub_back : (t u : Term) → Back t → Back u → Back (Sub t u)
-  unfolding fold_term EachNode Rattle.alg_terms.specs.declared.term.Term.TheBlock.hidden-the_row-Term-0 denote.Hole.Carrier.hidden
-  sub_back t u back back' r = spaced_back signs.Minus raw.Sub Sub refl is_sub t u (laid file t) (laid file u) (back r.1) (back' r.2)
+  unfolding fold_term EachNode Rattle.alg_terms.specs.declared.term.Term.TheBlock.hidden-the_row-Term-0
+  denote.Hole.Carrier.hidden
+  sub_back t u back back' r = spaced_back signs.Minus raw.Sub Sub refl is_sub t u (laid file t) (laid file u) (back r.1)
+      (back' r.2)
 
   mul_back : (t u : Term) → Back t → Back u → Back (Mul t u)
-  unfolding fold_term EachNode Rattle.alg_terms.specs.declared.term.Term.TheBlock.hidden-the_row-Term-0 denote.Hole.Carrier.hidden
-  mul_back t u back back' r = tight_back signs.Star raw.Mul Mul refl is_mul t u (laid file t) (laid file u) (back r.1) (back' r.2)
+  unfolding fold_term EachNode Rattle.alg_terms.specs.declared.term.Term.TheBlock.hidden-the_row-Term-0
+  denote.Hole.Carrier.hidden
+  mul_back t u back back' r = tight_back signs.Star raw.Mul Mul refl is_mul t u (laid file t) (laid file u) (back r.1)
+      (back' r.2)
 
   div_back : (t u : Term) → Back t → Back u → Back (Div t u)
-  unfolding fold_term EachNode Rattle.alg_terms.specs.declared.term.Term.TheBlock.hidden-the_row-Term-0 denote.Hole.Carrier.hidden
-  div_back t u back back' r = tight_back signs.Slash raw.Div Div refl is_div t u (laid file t) (laid file u) (back r.1) (back' r.2)
+  unfolding fold_term EachNode Rattle.alg_terms.specs.declared.term.Term.TheBlock.hidden-the_row-Term-0
+  denote.Hole.Carrier.hidden
+  div_back t u back back' r = tight_back signs.Slash raw.Div Div refl is_div t u (laid file t) (laid file u) (back r.1)
+      (back' r.2)
 
   -- each term of the front comes back
   pub term_back : (t : Term) → Back t

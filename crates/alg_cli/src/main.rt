@@ -3,6 +3,7 @@
 //! `specs/Runs.antt` and `specs/Replies.antt` have the words of its contract.
 #![tactic(auto)]
 
+pub mod laws;
 pub mod status;
 #[cfg(test)]
 mod tests;

@@ -8,11 +8,11 @@ use Rattle.std.proofs.lemmas.List.{length-map}
 use Rattle.std.proofs.lemmas.Slice.Eq.{bytes_eq-Decides}
 use Rattle.alg_terms.specs.declared.file.File.{File}
 use Rattle.alg_terms.specs.Members.{sort_at, hom_at, var_at, no_sort, no_hom, no_var}
-use Rattle.alg_terms.specs.Valid.{IsValid, names_of}
+use Rattle.alg_terms.specs.Valid.{names_of}
 use Rattle.alg_typing.specs.declared.declaration.Declaration.{Declaration}
 use Rattle.alg_typing.specs.declared.declaration.Declaration.TheVariants.{Sort, Hom, Var, Hyp}
 use Rattle.alg_typing.specs.Names.{declared_as}
-use Rattle.alg_typing.proofs.FreshNames.{Name, IsNew, AreDistinct, AreApart, distinct_from_pairs, distinct_left, distinct_right, distinct_apart, recursion_left, recursion_right}
+use Rattle.alg_typing.proofs.FreshNames.{Name, IsNew, AreDistinct, AreApart, distinct_left, distinct_right, distinct_apart, recursion_left, recursion_right}
 
 cases : (b : Bool) → (b ≡ true) ⊎ (b ≡ false)
 cases true = inl refl
@@ -124,12 +124,9 @@ module _ (g : File) where
       (not_found name homs (recursion_right P sorts homs two)) (not_found name vars (recursion_right P (sorts ++ homs) vars three))
       (not_found name hyps (recursion_right P ((sorts ++ homs) ++ vars) hyps h))
 
-  module _ (valid : IsValid g) where
-    all : AreDistinct (((sorts ++ homs) ++ vars) ++ hyps)
-    all = distinct_from_pairs (names_of g) valid.distinct
-
+  module _ (distinct : AreDistinct (names_of g)) where
     three : AreDistinct ((sorts ++ homs) ++ vars)
-    three = distinct_left ((sorts ++ homs) ++ vars) hyps all
+    three = distinct_left ((sorts ++ homs) ++ vars) hyps distinct
 
     two : AreDistinct (sorts ++ homs)
     two = distinct_left (sorts ++ homs) vars three

@@ -103,7 +103,7 @@ not_declared file name h =
 abbrev pub AreApart : List Name → List Name → Type 0
 AreApart names others = AllByRecursion (λ name. IsNew name others) names
 
-distinct_append : (xs ys : List Name) → AreDistinct xs → AreDistinct ys → AreApart xs ys → AreDistinct (xs ++ ys)
+pub distinct_append : (xs ys : List Name) → AreDistinct xs → AreDistinct ys → AreApart xs ys → AreDistinct (xs ++ ys)
 distinct_append [] ys h k a = k
 distinct_append (x ∷ xs) ys h k a =
     (recursion_append (λ other. x ≢ other) xs ys h.0 a.0, distinct_append xs ys h.1 k a.1)

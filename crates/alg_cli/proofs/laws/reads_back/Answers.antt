@@ -1,0 +1,5 @@
+use Rattle.alg_cli.proofs.FilesBack as law
+use Rattle.alg_cli.proofs.laws.reads_back.Goals as goal
+
+pub returns : goal.returns
+returns c = law.reads_back c.cut_from_anywhere.ensures
