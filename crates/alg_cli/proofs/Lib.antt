@@ -23,5 +23,6 @@ pub mod StandingStatements
 pub mod StandingTerms
 pub mod StatementsRead
 pub mod Steps
+pub mod Taken
 pub mod TermsBack
 pub mod Writing
