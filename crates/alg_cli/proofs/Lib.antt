@@ -1,4 +1,5 @@
 pub mod Answered
+pub mod DeclarationsBack
 pub mod Derived
 pub mod DerivedGoals
 pub mod DerivedStatements
@@ -8,6 +9,7 @@ pub mod Fresh
 pub mod Fronts
 pub mod LaidStatements
 pub mod LaidTerms
+pub mod NamesTaken
 pub mod OpenBytes
 pub mod PassedStatements
 pub mod Placed
@@ -25,4 +27,5 @@ pub mod StatementsRead
 pub mod Steps
 pub mod Taken
 pub mod TermsBack
+pub mod VarsBack
 pub mod Writing
