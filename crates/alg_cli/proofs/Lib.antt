@@ -10,6 +10,7 @@ pub mod Fronts
 pub mod LaidStatements
 pub mod LaidTerms
 pub mod NamesTaken
+pub mod NextLists
 pub mod OpenBytes
 pub mod PassedStatements
 pub mod Placed
@@ -27,5 +28,6 @@ pub mod StatementsRead
 pub mod Steps
 pub mod Taken
 pub mod TermsBack
+pub mod VarLists
 pub mod VarsBack
 pub mod Writing
