@@ -25,24 +25,23 @@ use Rattle.alg_typing.specs.Resolved.{extended}
 use Rattle.alg_typing.specs.SortFaults.{sort_faults}
 use Rattle.alg_printer.specs.Text.{text_of, statement_text, IsStatementOf}
 use Rattle.alg_cli.specs.ReadingBack.{most_open, OpensFew, IsReadToday, ReadsBack}
-use Rattle.alg_cli.proofs.DeclarationsBack.{sort_taken, hom_taken, vars_taken}
+use Rattle.alg_cli.proofs.DeclarationsBack.{sort_taken, hom_taken}
 use Rattle.alg_cli.proofs.FileTokens.{around, statement_of, statement_tokens, text_ends, text_width, statement_piece_bytes}
 use Rattle.alg_cli.proofs.FrontNames.{front_distinct}
 use Rattle.alg_cli.proofs.Fronts.{front, sorts_in, homs_in, vars_in, hyps_in, goals_in}
-use Rattle.alg_cli.proofs.GoalsBack.{goal_taken, file_by}
+use Rattle.alg_cli.proofs.GoalsBack.{goal_taken}
 use Rattle.alg_cli.proofs.LaidStatements.{laid_statement, file_pieces}
 use Rattle.alg_cli.proofs.LaidTerms.{line_feed}
+use Rattle.alg_cli.proofs.NextLists.{same_lists}
 use Rattle.alg_cli.proofs.Placed.{Placed, placed_all}
 use Rattle.alg_cli.proofs.SpelledStatements.{line_pieces, spelled_statement}
 use Rattle.alg_cli.proofs.StatementsRead.{statement_read}
 use Rattle.alg_cli.proofs.Taken.{IsTaken}
 use Rattle.alg_cli.proofs.Utf8Text.{text_utf8}
+use Rattle.alg_cli.proofs.VarLists.{numbers_long}
+use Rattle.alg_cli.proofs.VarsBack.{vars_taken}
 
 -- ---- the whole file as the front of all statements
-
-length_numbers : (first count : ℕ) → length (numbers_from first count) ≡ count
-length_numbers first zero = refl
-length_numbers first (suc count) = ap suc (length_numbers (suc first) count)
 
 -- as many items as there are
 take_whole : {X : Type 0} (xs : List X) (n : ℕ) → n ≡ length xs → take n xs ≡ xs
@@ -58,18 +57,18 @@ take_no (x ∷ xs) = refl
 -- all numbers of a list
 all_of : {X : Type 0} (xs : List X) (numbers : List ℕ) → numbers ≡ numbers_from 0 (length xs) →
     take (length numbers) xs ≡ xs
-all_of xs numbers same = take_whole xs (length numbers) (ap length same ∙ length_numbers 0 (length xs))
+all_of xs numbers same = take_whole xs (length numbers) (ap length same ∙ numbers_long 0 (length xs))
 
 whole_front : (file : File) → IsValid file → front file file.order ≡ file
 whole_front file valid =
     let all = valid.ordered.once_rising in
-    file_by (front file file.order) file (all_of file.sorts _ (ap (λ m. m.sorts) all))
+    same_lists (front file file.order) file (all_of file.sorts _ (ap (λ m. m.sorts) all))
     (all_of file.homs _ (ap (λ m. m.homs) all)) (all_of file.vars _ (ap (λ m. m.vars) all))
     (all_of file.hyps _ (ap (λ m. m.hyps) all)) (all_of file.goals _ (ap (λ m. m.goals) all)) refl
 
 empty_front : (file : File) → front file [] ≡ no_statements
 empty_front file =
-    file_by (front file []) no_statements (take_no file.sorts) (take_no file.homs) (take_no file.vars)
+    same_lists (front file []) no_statements (take_no file.sorts) (take_no file.homs) (take_no file.vars)
     (take_no file.hyps) (take_no file.goals) refl
 
 -- ---- each statement
@@ -131,13 +130,13 @@ module _ (law : CutFromAnywhere) (file : File) (valid : IsValid file) (few : Ope
       IsStatementOf file s →
       IsTaken (front file before) text ((laid_statement file s).raw (begin before)) (front file (before ++ s ∷ []))
   taken_there before after (statement.Sort k) split is =
-      sort_taken file valid before after k split is (front_distinct file valid before) text (begin before)
+      sort_taken file valid before after k split text (begin before)
       (placed_there before after (statement.Sort k) split)
   taken_there before after (statement.Hom f) split is =
-      hom_taken file valid before after f split is (front_distinct file valid before) text (begin before)
+      hom_taken file valid before after f split (front_distinct file valid before) text (begin before)
       (placed_there before after (statement.Hom f) split)
   taken_there before after (statement.Vars first count) split is =
-      vars_taken file valid before after first count split is (front_distinct file valid before) text (begin before)
+      vars_taken file valid before after first count split (front_distinct file valid before) text (begin before)
       (placed_there before after (statement.Vars first count) split)
   taken_there before after (statement.Hyp h) split is = let none = ap length today.hyps in absurd (omega arith)
   taken_there before after (statement.Goal i) split is =

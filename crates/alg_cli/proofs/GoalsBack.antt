@@ -36,13 +36,14 @@ use Rattle.alg_typing.proofs.Growing.{Grows, agree_same}
 use Rattle.alg_typing.proofs.GrowingTerms.{own_same, or_same}
 use Rattle.alg_typing.proofs.Ordering.{all_left, all_right}
 use Rattle.alg_cli.specs.ReadingBack.{IsReadToday}
-use Rattle.alg_cli.proofs.Fronts.{front, vars_in as vars_before, homs_in as homs_before, sorts_in, hyps_in, goals_in, grows, next}
+use Rattle.alg_cli.proofs.Fronts.{front, vars_in as vars_before, homs_in as homs_before, grows, next}
 use Rattle.alg_cli.proofs.LaidStatements.{laid_goal, laid_statement, dot}
 use Rattle.alg_cli.proofs.LaidTerms.{laid, space, sign, word}
+use Rattle.alg_cli.proofs.NextLists.{same_lists, same_list, next_item}
 use Rattle.alg_cli.proofs.Placed.{Placed, placed_left, placed_right}
 use Rattle.alg_cli.proofs.Shrinking.{in_range, rules}
 use Rattle.alg_cli.proofs.SortsBack.{IsClear, term_clear, never_differ, no_cause, own_same as own_back}
-use Rattle.alg_cli.proofs.Steps.{count_with, among_low, rises, take_none, take_one, length_of_take}
+use Rattle.alg_cli.proofs.Steps.{among_low, rises, length_of_take}
 use Rattle.alg_cli.proofs.Taken.{IsTaken}
 use Rattle.alg_cli.proofs.TermsBack.{term_back}
 
@@ -61,11 +62,6 @@ equation_by e sort left right p q r =
     ap (λ s. record { sort = s; left = left; right = right }) p
     ∙ ap (λ t. record { sort = e.sort; left = t; right = right }) q
     ∙ ap (λ t. record { sort = e.sort; left = e.left; right = t }) r
-
--- a file by its lists
-file_by : (a b : File) → a.sorts ≡ b.sorts → a.homs ≡ b.homs → a.vars ≡ b.vars → a.hyps ≡ b.hyps →
-    a.goals ≡ b.goals → a.order ≡ b.order → a ≡ b
-file_by a b p q r s t u = cc
 
 -- a side of an equation that comes back: its names and its sorts have no faults
 pub record IsSideBack (g : File) (text : List ℕ) (t : Term) (raw : RawTerm) : Type 0 where
@@ -196,19 +192,13 @@ module _ (file : File) (valid : IsValid file) (today : IsReadToday file) (before
       ≡ front file (before ++ statement.Goal i ∷ [])
   goal_added goal' same =
       let s = statement.Goal i in
-      let (here, fits) = (next file valid.ordered before after s split).goals in
-      let place : i ≡ goals_in before = cc in
-      let counted : length g.goals ≡ goals_in before = length_of_take file.goals (goals_in before) (omega arith) in
-      let whole : g.goals ++ goal' ∷ [] ≡ take (goals_in (before ++ s ∷ [])) file.goals =
-      ap (λ x. g.goals ++ x ∷ []) (same ∙ ap (λ n. goal_at file n) place)
-      ∙ sym (take_one file.goals (goals_in before) (goals_in (before ++ s ∷ [])) no_goal (omega arith)
-      (count_with (λ s. (declared_by s).goals) before s)) in
-      file_by _ (front file (before ++ s ∷ []))
-      (sym (take_none file.sorts (sorts_in before) _ (count_with (λ s. (declared_by s).sorts) before s)))
-      (sym (take_none file.homs (homs_before before) _ (count_with (λ s. (declared_by s).homs) before s)))
-      (sym (take_none file.vars (vars_before before) _ (count_with (λ s. (declared_by s).vars) before s)))
-      (sym (take_none file.hyps (hyps_in before) _ (count_with (λ s. (declared_by s).hyps) before s))) whole
-      (ap (λ n. before ++ statement.Goal n ∷ []) (counted ∙ sym place))
+      let item = next_item (λ s. (declared_by s).goals) file.goals no_goal before s i
+      (next file valid.ordered before after s split).goals refl in
+      same_lists _ (front file (before ++ s ∷ [])) (same_list (λ s. (declared_by s).sorts) file.sorts before s refl)
+      (same_list (λ s. (declared_by s).homs) file.homs before s refl)
+      (same_list (λ s. (declared_by s).vars) file.vars before s refl)
+      (same_list (λ s. (declared_by s).hyps) file.hyps before s refl)
+      (ap (λ x. g.goals ++ x ∷ []) same ∙ item.items) (ap (λ n. before ++ statement.Goal n ∷ []) item.counted)
 
   pub goal_taken : (text : List ℕ) (at : ℕ) → Placed text at (laid_goal file e).pieces →
       IsTaken g text ((laid_goal file e).raw at) (front file (before ++ statement.Goal i ∷ []))

@@ -1,16 +1,19 @@
 pub mod Answered
+pub mod DeclarationsBack
 pub mod Derived
 pub mod DerivedGoals
 pub mod DerivedStatements
 pub mod DerivedTerms
 pub mod FileTokens
-pub mod Fresh
 pub mod FilesBack
+pub mod Fresh
 pub mod FrontNames
 pub mod Fronts
 pub mod GoalsBack
 pub mod LaidStatements
 pub mod LaidTerms
+pub mod NamesTaken
+pub mod NextLists
 pub mod OpenBytes
 pub mod PassedStatements
 pub mod Placed
@@ -29,4 +32,6 @@ pub mod Steps
 pub mod Taken
 pub mod TermsBack
 pub mod Utf8Text
+pub mod VarLists
+pub mod VarsBack
 pub mod Writing
