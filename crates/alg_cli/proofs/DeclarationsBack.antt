@@ -40,7 +40,8 @@ module _ (sort : Sort) (text : List ℕ) (at : ℕ) where
   sort_bytes placed =
       let head : List Piece = word (kind_word sort.kind) ∷ space ∷ [] in
       let rest = char_pieces sort.char0 ++ dot in
-      span_bytes text (at + width head) kinds.Name sort.name rest (placed_right text at head (name sort.name ∷ rest) placed)
+      span_bytes text (at + width head) kinds.Name sort.name rest
+      (placed_right text at head (name sort.name ∷ rest) placed)
 
 -- where the names of a morphism, of its source and of its target stand in its text
 module _ (file : File) (hom : HomDecl) (text : List ℕ) (at : ℕ) where
@@ -99,9 +100,10 @@ module _ (file : File) (valid : IsValid file) (before after : List Statement) wh
       (next file valid.ordered before after s split).sorts refl in
       let there = sort_span sort text at in
       let bytes : bytes_at text there ≡ sort.name = sort_bytes sort text at placed in
+      let free = fresh_sort file valid before k item.here item.low in
       let last : Sort → List Sort = λ sort. take (sorts_in before) file.sorts ++ sort ∷ [] in
       record {
-        names = new_taken (front file before) text [] there sort.name bytes (fresh_sort file valid before k item.here item.low) tt;
+        names = new_taken (front file before) text [] there sort.name bytes free tt;
         sorts = refl;
         extends = same_lists _ _
             (ap (λ b. last (record { name = b; kind = sort.kind; char0 = sort.char0 })) bytes ∙ item.items)
@@ -121,7 +123,8 @@ module _ (file : File) (valid : IsValid file) (before after : List Statement) wh
       let used = (valid.ordered.earlier before after s split).sorts in
       let P : ℕ → Type 0 = Contains (declared_by_all before).sorts in (
         sort_before file valid before after s split hom.from (All-head P hom.from (hom.to ∷ []) used),
-        sort_before file valid before after s split hom.to (All-head P hom.to [] (All-tail P hom.from (hom.to ∷ []) used)),
+        sort_before file valid before after s split hom.to
+            (All-head P hom.to [] (All-tail P hom.from (hom.to ∷ []) used)),
       )
 
   pub hom_taken : (f : ℕ) → file.order ≡ before ++ (statement.Hom f ∷ after) → IsValid (front file before) →

@@ -12,19 +12,18 @@ use Rattle.alg_cli.proofs.Steps.{count_with, take_none, take_one, length_of_take
 pub same_lists : (f g : File) → f.sorts ≡ g.sorts → f.homs ≡ g.homs → f.vars ≡ g.vars → f.hyps ≡ g.hyps →
     f.goals ≡ g.goals → f.order ≡ g.order → f ≡ g
 same_lists f g sorts homs vars hyps goals order =
-    ap (λ l. record { sorts = l; homs = f.homs; vars = f.vars; hyps = f.hyps; goals = f.goals; order = f.order }) sorts
-    ∙ ap (λ l. record { sorts = g.sorts; homs = l; vars = f.vars; hyps = f.hyps; goals = f.goals; order = f.order }) homs
-    ∙ ap (λ l. record { sorts = g.sorts; homs = g.homs; vars = l; hyps = f.hyps; goals = f.goals; order = f.order }) vars
-    ∙ ap (λ l. record { sorts = g.sorts; homs = g.homs; vars = g.vars; hyps = l; goals = f.goals; order = f.order }) hyps
-    ∙ ap (λ l. record { sorts = g.sorts; homs = g.homs; vars = g.vars; hyps = g.hyps; goals = l; order = f.order }) goals
-    ∙ ap (λ l. record { sorts = g.sorts; homs = g.homs; vars = g.vars; hyps = g.hyps; goals = g.goals; order = l }) order
+    ap (λ l. record f { sorts = l }) sorts ∙ ap (λ l. record f { sorts = g.sorts; homs = l }) homs
+    ∙ ap (λ l. record f { sorts = g.sorts; homs = g.homs; vars = l }) vars
+    ∙ ap (λ l. record g { hyps = l; goals = f.goals; order = f.order }) hyps
+    ∙ ap (λ l. record g { goals = l; order = f.order }) goals ∙ ap (λ l. record g { order = l }) order
 
 -- a list that a statement adds nothing to
 pub same_list : {X : Type 0} (f : Statement → List ℕ) (xs : List X) (before : List Statement) (s : Statement) →
     length (f s) ≡ 0 → take (length (flat_map f before)) xs ≡ take (length (flat_map f (before ++ s ∷ []))) xs
 same_list f xs before s nothing =
     let count = length (flat_map f before) in
-    sym (take_none xs count (length (flat_map f (before ++ s ∷ []))) (count_with f before s ∙ ap (λ n. count + n) nothing))
+    let more = count_with f before s ∙ ap (λ n. count + n) nothing in
+    sym (take_none xs count (length (flat_map f (before ++ s ∷ []))) more)
 
 pub first_same : (x y : ℕ) (xs ys : List ℕ) → x ∷ xs ≡ y ∷ ys → x ≡ y
 first_same x y xs ys h = cc
@@ -37,8 +36,8 @@ pub record IsNextItem (X : Type 0) (xs : List X) (d : X) (front next k : ℕ) : 
   pub counted : length (take front xs) ≡ k
 
 -- a list that a statement adds one item to
-pub next_item : {X : Type 0} (f : Statement → List ℕ) (xs : List X) (d : X) (before : List Statement) (s : Statement) (k : ℕ) →
-    Continues f before s (length xs) → f s ≡ k ∷ [] →
+pub next_item : {X : Type 0} (f : Statement → List ℕ) (xs : List X) (d : X) (before : List Statement) (s : Statement)
+    (k : ℕ) → Continues f before s (length xs) → f s ≡ k ∷ [] →
     IsNextItem X xs d (length (flat_map f before)) (length (flat_map f (before ++ s ∷ []))) k
 next_item f xs d before s k (rising, fits) same =
     let count = length (flat_map f before) in

@@ -25,15 +25,16 @@ numbers_long first zero = refl
 numbers_long first (suc count) = ap suc (numbers_long (suc first) count)
 
 -- numbers that rise by one begin with the first
-pub begin_same : (first start count more : ℕ) → 1 ≤ count → numbers_from first count ≡ numbers_from start more → first ≡ start
+pub begin_same : (first start count more : ℕ) → 1 ≤ count →
+    numbers_from first count ≡ numbers_from start more → first ≡ start
 begin_same first start zero more some h = absurd (omega arith)
 begin_same first start (suc count) zero some h = absurd (cc)
 begin_same first start (suc count) (suc more) some h =
     first_same first start (numbers_from (suc first) count) (numbers_from (suc start) more) h
 
 -- what holds of what all of them are mapped to holds at the first
-pub first_of_all : (P : ℕ → Type 0) (f : ℕ → ℕ) (first count : ℕ) → 1 ≤ count → All P (map f (numbers_from first count)) →
-    P (f first)
+pub first_of_all : (P : ℕ → Type 0) (f : ℕ → ℕ) (first count : ℕ) → 1 ≤ count →
+    All P (map f (numbers_from first count)) → P (f first)
 first_of_all P f first zero some h = absurd (omega arith)
 first_of_all P f first (suc count) some h = All-head P (f first) (map f (numbers_from (suc first) count)) h
 

@@ -34,15 +34,16 @@ use Rattle.alg_cli.proofs.Taken.{IsTaken}
 use Rattle.alg_cli.proofs.VarLists.{numbers_long, begin_same, first_of_all, take_several, names_bytes, length_of_spans, declared_vars}
 
 -- a name that is new to the first variables is not that of one of them
-not_earlier : (file : File) (name : Name) (k j : ℕ) → k < j → k < length file.vars →
-    IsNew name (map (λ var. var.name) (take j file.vars)) → name ≢ var_name file k
-not_earlier file name k j earlier low new =
+not_earlier : (file : File) (bytes : Name) (k j : ℕ) → k < j → k < length file.vars →
+    IsNew bytes (map (λ var. var.name) (take j file.vars)) → bytes ≢ var_name file k
+not_earlier file bytes k j earlier low new =
     let first = take j file.vars in
     let inside : k < length first = omega (arith, length-take j file.vars) in
     let there = name_at (λ var. var.name) first k no_var inside in
     let same = ap (λ var. var.name) (get_or-take j file.vars k no_var earlier) in
-    subst (λ other. name ≢ other) (there ∙ same) (at_place (λ other. name ≢ other) (map (λ var. var.name) first) k [] new
-    (omega (arith, inside, length-map first (λ var. var.name))))
+    let named : k < length (map (λ var. var.name) first) = omega (arith, inside, length-map first (λ var. var.name)) in
+    subst (λ other. bytes ≢ other) (there ∙ same)
+    (at_place (λ other. bytes ≢ other) (map (λ var. var.name) first) k [] new named)
 
 module _ (file : File) (valid : IsValid file) (before after : List Statement) where
   -- the names of variables from the next one on are new, one after the other
@@ -54,7 +55,8 @@ module _ (file : File) (valid : IsValid file) (before after : List Statement) wh
       let (free, own) = fresh_var file valid before k behind (omega (arith, fits)) in
       let more : (name : Name) (j : ℕ) → suc k ≤ j → IsNew name (map (λ var. var.name) (take j file.vars)) →
       IsNew name (var_name file k ∷ earlier) = λ name j past new.
-      (not_earlier file name k j (omega (arith, past)) (omega (arith, fits)) new, apart name j (omega (arith, past)) new) in (
+      let later : k < j = omega (arith, past) in
+      (not_earlier file name k j later (omega (arith, fits)) new, apart name j (omega (arith, past)) new) in (
         (free, apart (var_name file k) k (omega arith) own),
         fresh_names (suc k) count (omega (arith, behind)) (omega (arith, fits)) (var_name file k ∷ earlier) more,
       )
@@ -135,7 +137,8 @@ module _ (file : File) (valid : IsValid file) (before after : List Statement) wh
       let inside = vars.fits in
       let low : vars_in before ≤ length file.vars = omega (arith, inside, vars.here) in
       let long : length spans ≡ count =
-      length_of_spans (at + 3) names ∙ length-map (numbers_from first count) (var_name file) ∙ numbers_long first count in
+      length_of_spans (at + 3) names ∙ length-map (numbers_from first count) (var_name file)
+      ∙ numbers_long first count in
       record {
         names = two_empty (new_names g text [] spans) (used_name g text is_sort sort)
             (news_taken g text [] spans (subst (AreFresh g []) (sym bytes) (vars_fresh first count vars))) used;
