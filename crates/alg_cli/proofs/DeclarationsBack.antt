@@ -10,7 +10,7 @@ use Rattle.alg_terms.specs.declared.file.Statement.{Statement}
 use Rattle.alg_terms.specs.declared.file.Statement.TheVariants as statement
 use Rattle.alg_terms.specs.Members.{sort_at, hom_at, source_of, target_of, no_sort, no_hom}
 use Rattle.alg_terms.specs.Order.{declared_by, declared_by_all}
-use Rattle.alg_terms.specs.Valid.{IsValid}
+use Rattle.alg_terms.specs.Valid.{IsValid, names_of}
 use Rattle.alg_tokens.specs.declared.token.Sign.TheVariants as signs
 use Rattle.alg_tokens.specs.declared.token.TokenKind.TheVariants as kinds
 use Rattle.alg_tokens.specs.declared.token.Word.TheVariants as words
@@ -21,6 +21,7 @@ use Rattle.alg_reader.specs.WellRead.{bytes_at}
 use Rattle.alg_typing.specs.NameFaults.{new_name, used_name}
 use Rattle.alg_typing.specs.Names.{is_sort}
 use Rattle.alg_typing.specs.Resolved.{number_at}
+use Rattle.alg_typing.proofs.FreshNames.{AreDistinct}
 use Rattle.alg_printer.specs.Names.{sort_name}
 use Rattle.alg_cli.proofs.Fresh.{fresh_sort, fresh_hom}
 use Rattle.alg_cli.proofs.Fronts.{front, sorts_in, homs_in, next, grows}
@@ -127,11 +128,12 @@ module _ (file : File) (valid : IsValid file) (before after : List Statement) wh
             (All-head P hom.to [] (All-tail P hom.from (hom.to ∷ []) used)),
       )
 
-  pub hom_taken : (f : ℕ) → file.order ≡ before ++ (statement.Hom f ∷ after) → IsValid (front file before) →
-      (text : List ℕ) (at : ℕ) → Placed text at (laid_statement file (statement.Hom f)).pieces →
+  pub hom_taken : (f : ℕ) → file.order ≡ before ++ (statement.Hom f ∷ after) →
+      AreDistinct (names_of (front file before)) → (text : List ℕ) (at : ℕ) →
+      Placed text at (laid_statement file (statement.Hom f)).pieces →
       IsTaken (front file before) text ((laid_statement file (statement.Hom f)).raw at)
       (front file (before ++ statement.Hom f ∷ []))
-  hom_taken f split front_valid text at placed =
+  hom_taken f split distinct text at placed =
       let s = statement.Hom f in
       let g = front file before in
       let hom = hom_at file f in
@@ -142,9 +144,9 @@ module _ (file : File) (valid : IsValid file) (before after : List Statement) wh
       let target = target_span file hom text at in
       let bytes : bytes_at text own ≡ hom.name = hom_bytes file hom text at placed in
       let (from_there, to_there) = ends_before f split in
-      let (from, from_used) = sort_used g text file front_valid (grows file before) hom.from source from_there
+      let (from, from_used) = sort_used g text file distinct (grows file before) hom.from source from_there
       (source_bytes file hom text at placed) in
-      let (to, to_used) = sort_used g text file front_valid (grows file before) hom.to target to_there
+      let (to, to_used) = sort_used g text file distinct (grows file before) hom.to target to_there
       (target_bytes file hom text at placed) in
       let new : new_name g text [] own ≡ [] =
       new_taken g text [] own hom.name bytes (fresh_hom file valid before f item.here item.low) tt in

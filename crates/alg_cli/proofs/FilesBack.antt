@@ -1,7 +1,6 @@
 -- The canonical text of a file without answers reads as the file.
-use Rattle.std.proofs.Common.{◌≡◌, ◌≢◌, ◌≤◌, inl, ℕ, zero, suc, ◌+◌, ◌-◌, List, [], ◌∷◌, ◌++◌, length, take, drop, Option, None, Ok, refl, sym, ap, ◌∙◌, subst, arith, append_assoc, append-nil}
-use Rattle.std.specs.Prelude.{All}
-use Rattle.std.specs.List.{AllByRecursion, flat_map}
+use Rattle.std.proofs.Common.{◌≡◌, ◌≢◌, ◌≤◌, inl, ℕ, zero, suc, ◌+◌, ◌-◌, List, [], ◌∷◌, ◌++◌, length, take, None, Ok, refl, sym, ap, ◌∙◌, subst, arith, append_assoc, append-nil}
+use Rattle.std.specs.List.{AllByRecursion}
 use Rattle.std.specs.Option.{option_or, option_map}
 use Rattle.std.proofs.lemmas.List.Concat.{flat_map-append}
 use Rattle.std.proofs.lemmas.List.Elements.{recursion_from_All}
@@ -11,24 +10,22 @@ use Rattle.alg_terms.specs.declared.file.Statement.TheVariants as statement
 use Rattle.alg_terms.specs.Order.{numbers_from}
 use Rattle.alg_terms.specs.Valid.{IsValid}
 use Rattle.alg_tokens.specs.Laws.{width, CutFromAnywhere}
-use Rattle.alg_tokens.specs.Pieces.{Piece, bytes_of}
+use Rattle.alg_tokens.specs.Pieces.{Piece}
 use Rattle.alg_tokens.proofs.Neighbours.{width_append}
-use Rattle.alg_reader.specs.declared.raw.RawKind.{RawKind}
 use Rattle.alg_reader.specs.declared.raw.RawKind.TheVariants as raws
 use Rattle.alg_reader.specs.declared.reading.Raw.{Raw}
-use Rattle.alg_reader.specs.Statements.{IsRead, IsEnd}
+use Rattle.alg_reader.specs.Statements.{IsRead}
 use Rattle.alg_reader.proofs.Found.{all_split}
 use Rattle.alg_typing.specs.Faults.{fault, first_of}
 use Rattle.alg_typing.specs.NameFaults.{name_faults}
 use Rattle.alg_typing.specs.Reading.{Reads, GoesOnWith, first_fault, no_statements, IsReadingOf}
-use Rattle.alg_typing.specs.Resolved.{extended}
 use Rattle.alg_typing.specs.SortFaults.{sort_faults}
 use Rattle.alg_printer.specs.Text.{text_of, statement_text, IsStatementOf}
 use Rattle.alg_cli.specs.ReadingBack.{most_open, OpensFew, IsReadToday, ReadsBack}
 use Rattle.alg_cli.proofs.DeclarationsBack.{sort_taken, hom_taken}
-use Rattle.alg_cli.proofs.FileTokens.{around, statement_of, statement_tokens, text_ends, text_width, statement_piece_bytes}
+use Rattle.alg_cli.proofs.FileTokens.{statement_of, statement_tokens, text_ends, statement_piece_bytes}
 use Rattle.alg_cli.proofs.FrontNames.{front_distinct}
-use Rattle.alg_cli.proofs.Fronts.{front, sorts_in, homs_in, vars_in, hyps_in, goals_in}
+use Rattle.alg_cli.proofs.Fronts.{front}
 use Rattle.alg_cli.proofs.GoalsBack.{goal_taken}
 use Rattle.alg_cli.proofs.LaidStatements.{laid_statement, file_pieces}
 use Rattle.alg_cli.proofs.LaidTerms.{line_feed}
@@ -82,7 +79,8 @@ faultless g next text raw shallow taken =
     ap (λ deep. option_or (option_map (fault 11) deep) (option_or names sorts)) shallow
     ∙ ap (λ faults. option_or (first_of faults) sorts) taken.names ∙ ap first_of taken.sorts
 
-module _ (law : CutFromAnywhere) (file : File) (valid : IsValid file) (few : OpensFew file) (today : IsReadToday file) where
+module _ (law : CutFromAnywhere) (file : File) (valid : IsValid file) (few : OpensFew file)
+    (today : IsReadToday file) where
   abbrev text : List ℕ
   text = text_of file []
 
@@ -159,7 +157,8 @@ module _ (law : CutFromAnywhere) (file : File) (valid : IsValid file) (few : Ope
       let pieces : file_pieces file (before ++ s ∷ []) ≡ file_pieces file before ++ line =
       flat_map-append (λ s. line_pieces (pieces_of s)) before (s ∷ [])
       ∙ ap (λ ps. file_pieces file before ++ ps) (append-nil line) in
-      let wide : begin (before ++ s ∷ []) ≡ begin before + width line = ap width pieces ∙ width_append (file_pieces file before) line in
+      let wide : begin (before ++ s ∷ []) ≡ begin before + width line = ap width pieces
+      ∙ width_append (file_pieces file before) line in
       let feed = width_append (pieces_of s) (line_feed ∷ []) in
       omega (arith, wide, feed)
 
@@ -171,7 +170,9 @@ module _ (law : CutFromAnywhere) (file : File) (valid : IsValid file) (few : Ope
     [],
     (
       record { kind = raws.End; start = length text; stop = length text; too_deep = None },
-      (inl (text_ends law file valid today, refl), (refl, sym (whole_front file valid))),
+      inl (text_ends law file valid today, refl),
+      refl,
+      sym (whole_front file valid),
     ),
   )
 
@@ -184,12 +185,15 @@ module _ (law : CutFromAnywhere) (file : File) (valid : IsValid file) (few : Ope
       let taken = taken_there before after s split is in
       let raw = raw_of before s in
       let (raws, more) = reads_on after (before ++ s ∷ []) (split ∙ sym (append_assoc before (s ∷ []) after)) in
-      let behind = subst (λ at. GoesOnWith text at (front file (before ++ s ∷ [])) raws (Ok file)) (next_place before s) more in
+      let behind = subst (λ at. GoesOnWith text at (front file (before ++ s ∷ [])) raws (Ok file)) (next_place before s)
+      more in
       let from = subst (λ g. GoesOnWith text raw.stop g raws (Ok file)) (sym taken.extends) behind in (
         raw ∷ raws,
         (
           read_there before after s split,
-          (goes_on s (begin before) is, (faultless (front file before) _ text raw refl taken, from)),
+          goes_on s (begin before) is,
+          faultless (front file before) (front file (before ++ s ∷ [])) text raw refl taken,
+          from,
         ),
       )
 

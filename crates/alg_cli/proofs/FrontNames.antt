@@ -40,7 +40,8 @@ together a b a' b' p q = record {
       (recursion_weaker (λ n. IsNew n b) (λ n. IsNew n b') a' (λ n new. q.each (λ other. n ≢ other) new) apart);
 }
 
-pub front_distinct : (file : File) → IsValid file → (before : List Statement) → AreDistinct (names_of (front file before))
+pub front_distinct : (file : File) → IsValid file → (before : List Statement) →
+    AreDistinct (names_of (front file before))
 front_distinct file valid before =
     let sorts = taken (λ sort. sort.name) file.sorts (sorts_in before) in
     let homs = taken (λ hom. hom.name) file.homs (homs_in before) in

@@ -1,6 +1,6 @@
 -- A goal of a valid file, in its canonical text, is taken by the front of the file before it.
-use Rattle.std.proofs.Common.{◌≡◌, ◌<◌, ◌≤◌, ℕ, ◌+◌, Bool, true, false, List, [], ◌∷◌, ◌++◌, length, map, take, Option, Some, refl, sym, ap, ◌∙◌, subst, arith, append-nil}
-use Rattle.std.specs.Prelude.{All, Contains, slice_index_or, unwrap_or, is_none}
+use Rattle.std.proofs.Common.{◌≡◌, ◌<◌, ℕ, ◌+◌, Bool, true, false, List, [], ◌∷◌, ◌++◌, length, Option, Some, refl, sym, ap, ◌∙◌, subst, arith}
+use Rattle.std.specs.Prelude.{All, Contains, unwrap_or, is_none}
 use Rattle.std.specs.List.{flat_map}
 use Rattle.std.specs.Option.{option_or}
 use Rattle.std.proofs.lemmas.List.Elements.{All-get_or, All-weaker}
@@ -9,40 +9,36 @@ use Rattle.alg_terms.specs.declared.file.Statement.{Statement}
 use Rattle.alg_terms.specs.declared.file.Statement.TheVariants as statement
 use Rattle.alg_terms.specs.declared.goals.Equation.{Equation}
 use Rattle.alg_terms.specs.declared.goals.Goal.{Goal}
-use Rattle.alg_terms.specs.declared.goals.Method.{Method}
 use Rattle.alg_terms.specs.declared.goals.Method.TheVariants.{ByRing}
 use Rattle.alg_terms.specs.declared.term.Term.{Term}
 use Rattle.alg_terms.specs.GoalRules.{IsEquation, DividesNowhere, MayBeBy}
 use Rattle.alg_terms.specs.Members.{goal_at, no_goal, uses_of}
 use Rattle.alg_terms.specs.Nodes.{fold_term, EachNode}
 use Rattle.alg_terms.specs.Occurring.{node_vars, node_homs, vars_in, homs_in}
-use Rattle.alg_terms.specs.Order.{numbers_from, declared_by, declared_by_all}
+use Rattle.alg_terms.specs.Order.{numbers_from, declared_by}
 use Rattle.alg_terms.specs.Sorts.{own_sort, equation_sort, Agree}
 use Rattle.alg_terms.specs.TermRules.{IsTerm, IsInRange, HasNoQuotient}
 use Rattle.alg_terms.specs.Valid.{IsValid, names_of}
 use Rattle.alg_tokens.specs.declared.token.Sign.TheVariants as signs
 use Rattle.alg_tokens.specs.declared.token.Word.TheVariants as words
 use Rattle.alg_tokens.specs.Laws.{width}
-use Rattle.alg_tokens.specs.Pieces.{Piece}
 use Rattle.alg_reader.specs.declared.raw.RawEquation.{RawEquation}
-use Rattle.alg_reader.specs.declared.raw.RawKind.TheVariants as raws
-use Rattle.alg_reader.specs.declared.raw.RawMethod.TheVariants as methods
 use Rattle.alg_reader.specs.declared.raw.RawTerm.{RawTerm}
 use Rattle.alg_typing.specs.NameFaults.{term_names, equation_names}
-use Rattle.alg_typing.specs.Resolved.{term_of, equation_of, extended}
+use Rattle.alg_typing.specs.Resolved.{term_of, equation_of}
 use Rattle.alg_typing.specs.SortFaults.{sorted, differ, equation_sorts}
 use Rattle.alg_typing.proofs.FreshNames.{AreDistinct}
-use Rattle.alg_typing.proofs.Growing.{Grows, agree_same}
+use Rattle.alg_typing.proofs.Growing.{agree_same}
 use Rattle.alg_typing.proofs.GrowingTerms.{own_same, or_same}
 use Rattle.alg_typing.proofs.Ordering.{all_left, all_right}
 use Rattle.alg_cli.specs.ReadingBack.{IsReadToday}
 use Rattle.alg_cli.proofs.Fronts.{front, vars_in as vars_before, homs_in as homs_before, grows, next}
-use Rattle.alg_cli.proofs.LaidStatements.{laid_goal, laid_statement, dot}
+use Rattle.alg_cli.proofs.LaidStatements.{laid_goal, dot}
 use Rattle.alg_cli.proofs.LaidTerms.{laid, space, sign, word}
 use Rattle.alg_cli.proofs.NextLists.{same_lists, same_list, next_item}
 use Rattle.alg_cli.proofs.Placed.{Placed, placed_left, placed_right}
 use Rattle.alg_cli.proofs.Shrinking.{in_range, rules}
-use Rattle.alg_cli.proofs.SortsBack.{IsClear, term_clear, never_differ, no_cause, own_same as own_back}
+use Rattle.alg_cli.proofs.SortsBack.{term_clear, never_differ, no_cause, own_same as own_back}
 use Rattle.alg_cli.proofs.Steps.{among_low, rises, length_of_take}
 use Rattle.alg_cli.proofs.Taken.{IsTaken}
 use Rattle.alg_cli.proofs.TermsBack.{term_back}
@@ -62,6 +58,13 @@ equation_by e sort left right p q r =
     ap (λ s. record { sort = s; left = left; right = right }) p
     ∙ ap (λ t. record { sort = e.sort; left = t; right = right }) q
     ∙ ap (λ t. record { sort = e.sort; left = e.left; right = t }) r
+
+-- a goal by ring by its equation
+ring_goal : (goal : Goal) (equation : Equation) → equation ≡ goal.equation → goal.method ≡ ByRing →
+    record { equation = equation; method = ByRing } ≡ goal
+ring_goal goal equation p q =
+    ap (λ x. record { equation = x; method = ByRing }) p
+    ∙ ap (λ m. record { equation = goal.equation; method = m }) (sym q)
 
 -- a side of an equation that comes back: its names and its sorts have no faults
 pub record IsSideBack (g : File) (text : List ℕ) (t : Term) (raw : RawTerm) : Type 0 where
@@ -87,13 +90,15 @@ module _ (g : File) (text : List ℕ) (e : Equation) (raw : RawEquation) (left :
       let apart : differ l.own r.own ≡ false =
       ap (λ o. differ o r.own) left.own ∙ ap (differ (own_sort g e.left)) right.own
       ∙ never_differ (own_sort g e.left) (own_sort g e.right) agree in
-      four_empty _ _ _ _ (left.sorts final true) (right.sorts final true) (no_cause (differ l.own r.own) 9 raw.relation apart)
+      four_empty _ _ _ _ (left.sorts final true) (right.sorts final true)
+      (no_cause (differ l.own r.own) 9 raw.relation apart)
       (no_cause (is_none final) 10 raw.relation (some_sort final e.sort same))
 
   equation_back : equation_of g text raw ≡ e
   equation_back =
       let found : equation_sort g (term_of g text raw.left) (term_of g text raw.right) ≡ Some e.sort =
-      ap (λ t. equation_sort g t (term_of g text raw.right)) left.term ∙ ap (equation_sort g e.left) right.term ∙ sort in
+      ap (λ t. equation_sort g t (term_of g text raw.right)) left.term ∙ ap (equation_sort g e.left) right.term
+      ∙ sort in
       equation_by e _ _ _ (ap (λ o. unwrap_or o 0) found) left.term right.term
 
 -- what is used of a list is below the count of what was declared
@@ -145,7 +150,8 @@ module _ (file : File) (valid : IsValid file) (today : IsReadToday file) (before
       let path = flat_map (λ used. used.path) (uses_of goal.method) in
       let all = low_in f before (homs_in e ++ path) (homs_before before) same
       (valid.ordered.earlier before after (statement.Goal i) split).homs in
-      subst (λ n. All (λ k. k < n) (homs_in e)) (sym counted) (all_left (λ k. k < homs_before before) (homs_in e) path all)
+      subst (λ n. All (λ k. k < n) (homs_in e)) (sym counted)
+      (all_left (λ k. k < homs_before before) (homs_in e) path all)
 
   left_range : EachNode (IsInRange g) e.left
   left_range = in_range g e.left
@@ -225,8 +231,7 @@ module _ (file : File) (valid : IsValid file) (today : IsReadToday file) (before
         right = (laid file e.right).raw (at + width middle);
       } in
       let back = equation_back g text e raw l r agree_there sort_there in
-      let same : record { equation = equation_of g text raw; method = ByRing } ≡ goal =
-      ap (λ x. record { equation = x; method = ByRing }) back ∙ ap (λ m. record { equation = e; method = m }) (sym by_ring) in
+      let same = ring_goal goal (equation_of g text raw) back by_ring in
       record {
         names = ap (λ x. x ++ []) (names_back g text e raw l r agree_there sort_there);
         sorts = ap (λ x. x ++ []) (sorts_back g text e raw l r agree_there sort_there);

@@ -16,7 +16,7 @@ use Rattle.alg_typing.specs.NameFaults.{new_name, new_names, used_name, misuse}
 use Rattle.alg_typing.specs.Names.{declared_as, is_sort, number_of}
 use Rattle.alg_typing.specs.Resolved.{number_at}
 use Rattle.alg_typing.proofs.DeclaredNames.{declared_none, declared_sort}
-use Rattle.alg_typing.proofs.FreshNames.{Name, IsNew}
+use Rattle.alg_typing.proofs.FreshNames.{Name, IsNew, AreDistinct}
 use Rattle.alg_typing.proofs.Growing.{Grows}
 use Rattle.alg_printer.specs.Names.{sort_name}
 use Rattle.alg_cli.proofs.Fronts.{front, sorts_in, next}
@@ -61,11 +61,12 @@ module _ (g : File) (text : List ℕ) where
       (news_taken (bytes_at text name ∷ before) names h.1)
 
   -- the name of a sort of a longer file is that of its number, and has no fault where a sort is wanted
-  pub sort_used : (file : File) → IsValid g → Grows g file → (s : ℕ) (name : Span) → s < length g.sorts →
-      bytes_at text name ≡ sort_name file s → (number_at g text name ≡ s) × (used_name g text is_sort name ≡ [])
-  sort_used file valid grows s name low same =
+  pub sort_used : (file : File) → AreDistinct (names_of g) → Grows g file → (s : ℕ) (name : Span) →
+      s < length g.sorts → bytes_at text name ≡ sort_name file s →
+      (number_at g text name ≡ s) × (used_name g text is_sort name ≡ [])
+  sort_used file distinct grows s name low same =
       let found : declared_as g (bytes_at text name) ≡ Some (declaration.Sort s) =
-      ap (declared_as g) (same ∙ ap (λ sort. sort.name) (grows.sorts s low)) ∙ declared_sort g valid s low in
+      ap (declared_as g) (same ∙ ap (λ sort. sort.name) (grows.sorts s low)) ∙ declared_sort g distinct s low in
       (ap (λ o. option_map_or number_of o 0) found, ap (misuse g text is_sort name.start) found)
 
 -- a sort that the statements before declare is one of the front

@@ -124,17 +124,17 @@ module _ (file g : File) (text : List ℕ) (distinct : AreDistinct (names_of g))
 
   is_add : IsOperator raw.Add Add
   unfolding fold_under Rattle.alg_reader.specs.declared.raw.RawNode.TheBlock.hidden-the_row-RawTerm-0
-  denote.Hole.Carrier.hidden
+      denote.Hole.Carrier.hidden
   is_add head l r = (refl, refl)
 
   is_sub : IsOperator raw.Sub Sub
   unfolding fold_under Rattle.alg_reader.specs.declared.raw.RawNode.TheBlock.hidden-the_row-RawTerm-0
-  denote.Hole.Carrier.hidden
+      denote.Hole.Carrier.hidden
   is_sub head l r = (refl, refl)
 
   is_mul : IsOperator raw.Mul Mul
   unfolding fold_under Rattle.alg_reader.specs.declared.raw.RawNode.TheBlock.hidden-the_row-RawTerm-0
-  denote.Hole.Carrier.hidden
+      denote.Hole.Carrier.hidden
   is_mul head l r = (refl, refl)
 
   abbrev Clear : Term → Type 0
@@ -240,7 +240,7 @@ module _ (file g : File) (text : List ℕ) (distinct : AreDistinct (names_of g))
 
   add_clear : (t u : Term) → Clear t → Clear u → Clear (Add t u)
   unfolding fold_term EachNode Rattle.alg_terms.specs.declared.term.Term.TheBlock.hidden-the_row-Term-0
-  denote.Hole.Carrier.hidden
+      denote.Hole.Carrier.hidden
   add_clear t u clear clear' rules =
       let (left, right) = add_rules t u rules in
       spaced_clear signs.Plus raw.Add Add refl is_add t u (laid file t) (laid file u) rules.parts.0 (clear left)
@@ -267,7 +267,7 @@ module _ (file g : File) (text : List ℕ) (distinct : AreDistinct (names_of g))
 
   sub_clear : (t u : Term) → Clear t → Clear u → Clear (Sub t u)
   unfolding fold_term EachNode Rattle.alg_terms.specs.declared.term.Term.TheBlock.hidden-the_row-Term-0
-  denote.Hole.Carrier.hidden
+      denote.Hole.Carrier.hidden
   sub_clear t u clear clear' rules =
       let (left, right) = sub_rules t u rules in
       spaced_clear signs.Minus raw.Sub Sub refl is_sub t u (laid file t) (laid file u) rules.parts.0 (clear left)
@@ -294,7 +294,7 @@ module _ (file g : File) (text : List ℕ) (distinct : AreDistinct (names_of g))
 
   mul_clear : (t u : Term) → Clear t → Clear u → Clear (Mul t u)
   unfolding fold_term EachNode Rattle.alg_terms.specs.declared.term.Term.TheBlock.hidden-the_row-Term-0
-  denote.Hole.Carrier.hidden
+      denote.Hole.Carrier.hidden
   mul_clear t u clear clear' rules =
       let (left, right) = mul_rules t u rules in
       tight_clear signs.Star raw.Mul Mul refl is_mul t u (laid file t) (laid file u) rules.parts.0 (clear left)

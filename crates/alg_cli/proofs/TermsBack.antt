@@ -116,22 +116,22 @@ module _ (file g : File) (text : List ℕ) (distinct : AreDistinct (names_of g))
   -- each operator is one
   is_add : IsNodeOfTwo raw.Add Add
   unfolding fold_under Rattle.alg_reader.specs.declared.raw.RawNode.TheBlock.hidden-the_row-RawTerm-0
-  denote.Hole.Carrier.hidden
+      denote.Hole.Carrier.hidden
   is_add head l r = (refl, refl)
 
   is_sub : IsNodeOfTwo raw.Sub Sub
   unfolding fold_under Rattle.alg_reader.specs.declared.raw.RawNode.TheBlock.hidden-the_row-RawTerm-0
-  denote.Hole.Carrier.hidden
+      denote.Hole.Carrier.hidden
   is_sub head l r = (refl, refl)
 
   is_mul : IsNodeOfTwo raw.Mul Mul
   unfolding fold_under Rattle.alg_reader.specs.declared.raw.RawNode.TheBlock.hidden-the_row-RawTerm-0
-  denote.Hole.Carrier.hidden
+      denote.Hole.Carrier.hidden
   is_mul head l r = (refl, refl)
 
   is_div : IsNodeOfTwo raw.Div Div
   unfolding fold_under Rattle.alg_reader.specs.declared.raw.RawNode.TheBlock.hidden-the_row-RawTerm-0
-  denote.Hole.Carrier.hidden
+      denote.Hole.Carrier.hidden
   is_div head l r = (refl, refl)
 
   abbrev Back : Term → Type 0
@@ -178,25 +178,25 @@ module _ (file g : File) (text : List ℕ) (distinct : AreDistinct (names_of g))
 
   add_back : (t u : Term) → Back t → Back u → Back (Add t u)
   unfolding fold_term EachNode Rattle.alg_terms.specs.declared.term.Term.TheBlock.hidden-the_row-Term-0
-  denote.Hole.Carrier.hidden
+      denote.Hole.Carrier.hidden
   add_back t u back back' r = spaced_back signs.Plus raw.Add Add refl is_add t u (laid file t) (laid file u) (back r.1)
       (back' r.2)
 
   sub_back : (t u : Term) → Back t → Back u → Back (Sub t u)
   unfolding fold_term EachNode Rattle.alg_terms.specs.declared.term.Term.TheBlock.hidden-the_row-Term-0
-  denote.Hole.Carrier.hidden
+      denote.Hole.Carrier.hidden
   sub_back t u back back' r = spaced_back signs.Minus raw.Sub Sub refl is_sub t u (laid file t) (laid file u) (back r.1)
       (back' r.2)
 
   mul_back : (t u : Term) → Back t → Back u → Back (Mul t u)
   unfolding fold_term EachNode Rattle.alg_terms.specs.declared.term.Term.TheBlock.hidden-the_row-Term-0
-  denote.Hole.Carrier.hidden
+      denote.Hole.Carrier.hidden
   mul_back t u back back' r = tight_back signs.Star raw.Mul Mul refl is_mul t u (laid file t) (laid file u) (back r.1)
       (back' r.2)
 
   div_back : (t u : Term) → Back t → Back u → Back (Div t u)
   unfolding fold_term EachNode Rattle.alg_terms.specs.declared.term.Term.TheBlock.hidden-the_row-Term-0
-  denote.Hole.Carrier.hidden
+      denote.Hole.Carrier.hidden
   div_back t u back back' r = tight_back signs.Slash raw.Div Div refl is_div t u (laid file t) (laid file u) (back r.1)
       (back' r.2)
 

@@ -1,8 +1,9 @@
 -- The canonical text of a file is UTF-8.
-use Rattle.std.proofs.Common.{◌≡◌, ◌<◌, ◌⊎◌, inl, inr, ℕ, Bool, true, false, not, ◌||◌, ◌&&◌, List, [], ◌∷◌, ◌++◌, refl, sym, ap, ◌∙◌, subst, arith, lit<}
+use Rattle.std.proofs.Common.{◌≡◌, ◌<◌, ◌⊎◌, inl, inr, ℕ, zero, suc, Bool, true, false, not, ◌||◌, ◌&&◌, ◌==◌, List, [], ◌∷◌, ◌++◌, refl, sym, ap, ◌∙◌, subst, arith, lit<}
 use Rattle.std.specs.Char.{IsAsciiDigit}
 use Rattle.std.specs.List.{AllByRecursion}
-use Rattle.std.specs.Str.{IsUtf8, IsAscii}
+use Rattle.std.specs.Prelude.{slice_index}
+use Rattle.std.specs.Str.{IsUtf8}
 use Rattle.std.proofs.Math.Utf8.{scalar, scalars}
 use Rattle.std.proofs.lemmas.Bool.Decides.{nat_tests}
 use Rattle.std.proofs.lemmas.Str.{IsUtf8-append, IsUtf8-nil, IsUtf8-from_ascii}
@@ -11,7 +12,7 @@ use Rattle.ucd_table.proofs.Computing.{tables}
 use Rattle.ucd_table.proofs.Facts.{Stepped-everywhere}
 use Rattle.ucd_table.proofs.Stepped.{zip_stepped, of_ranges}
 use Rattle.ucd_derived.proofs.BinaryLemmas.{is_xid_continue_stepped}
-use Rattle.unicode_ident.specs.Ident.{is_xid_continue}
+use Rattle.unicode_ident.specs.Ident.{is_xid_start, is_xid_continue}
 use Rattle.unicode_ident.proofs.Computing.{unicode_ident}
 use Rattle.unicode_ident.proofs.IdentLemmas.{is_xid_start-is_xid_continue}
 use Rattle.alg_terms.specs.declared.file.File.{File}
@@ -34,7 +35,7 @@ use Rattle.alg_cli.proofs.StandingStatements.{stand_file}
 -- ---- characters of names
 
 -- the Unicode scalar values
-scalar_ranges : List Range
+abbrev scalar_ranges : List Range
 scalar_ranges = (0, 55295) ∷ (57344, 1114111) ∷ []
 
 either : (a b : Bool) → (a || b) ≡ true → (a ≡ true) ⊎ (b ≡ true)
@@ -54,13 +55,13 @@ unfolding in_ranges
 xid_scalar c continues = let there = in_scalar_ranges c continues in grind (arith, nat_tests)
 
 continues_scalar : (c : ℕ) → continues_name c ≡ true → scalar c ≡ true
-continues_scalar c h = elim (either _ (is_xid_continue c) h) [
+continues_scalar c h = elim (either (c == 39) (is_xid_continue c) h) [
   | inl quote ↦ grind (arith, nat_tests)
   | inr continues ↦ xid_scalar c continues
 ]
 
 starts_scalar : (c : ℕ) → starts_name c ≡ true → scalar c ≡ true
-starts_scalar c h = elim (either _ _ h) [
+starts_scalar c h = elim (either (c == 95) (is_xid_start c) h) [
   | inl low_line ↦ grind (arith, nat_tests)
   | inr starts ↦ xid_scalar c (is_xid_start-is_xid_continue c starts)
 ]
@@ -76,12 +77,10 @@ name_utf8 bytes (c, chars, is, starts, more) =
 
 -- ---- pieces
 
-low_ascii : (bytes : List ℕ) → AllByRecursion (λ b. b < 128) bytes → IsAscii bytes
-low_ascii [] h = λ i. lit< tt
-low_ascii (b ∷ bytes) h = λ i. elim i [
-  | zero ↦ h.0
-  | suc n ↦ low_ascii bytes h.1 n
-]
+low_ascii : (bytes : List ℕ) → AllByRecursion (λ b. b < 128) bytes → (i : ℕ) → slice_index bytes i < 128
+low_ascii [] h i = lit< tt
+low_ascii (b ∷ bytes) h zero = h.0
+low_ascii (b ∷ bytes) h (suc n) = low_ascii bytes h.1 n
 
 low_utf8 : (bytes : List ℕ) → AllByRecursion (λ b. b < 128) bytes → IsUtf8 bytes
 low_utf8 bytes h = IsUtf8-from_ascii bytes (low_ascii bytes h)

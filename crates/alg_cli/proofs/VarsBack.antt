@@ -8,7 +8,7 @@ use Rattle.alg_terms.specs.declared.file.Statement.{Statement}
 use Rattle.alg_terms.specs.declared.file.Statement.TheVariants as statement
 use Rattle.alg_terms.specs.Members.{var_at, sort_of_var, no_var}
 use Rattle.alg_terms.specs.Order.{declared_by, declared_by_all, numbers_from, IsOneSorted}
-use Rattle.alg_terms.specs.Valid.{IsValid}
+use Rattle.alg_terms.specs.Valid.{IsValid, names_of}
 use Rattle.alg_tokens.specs.declared.token.Sign.TheVariants as signs
 use Rattle.alg_tokens.specs.declared.token.TokenKind.TheVariants as kinds
 use Rattle.alg_tokens.specs.declared.token.Word.TheVariants as words
@@ -19,7 +19,7 @@ use Rattle.alg_typing.specs.NameFaults.{new_names, used_name}
 use Rattle.alg_typing.specs.Names.{is_sort}
 use Rattle.alg_typing.specs.Resolved.{number_at, vars_of}
 use Rattle.alg_typing.proofs.DeclaredNames.{at_place, name_at}
-use Rattle.alg_typing.proofs.FreshNames.{Name, IsNew}
+use Rattle.alg_typing.proofs.FreshNames.{Name, IsNew, AreDistinct}
 use Rattle.alg_typing.proofs.Ordering.{all_right}
 use Rattle.alg_printer.specs.Names.{sort_name, var_name}
 use Rattle.alg_cli.proofs.Fresh.{fresh_var}
@@ -111,11 +111,11 @@ module _ (file : File) (valid : IsValid file) (before after : List Statement) wh
       ∙ sym (take_several file.vars first count no_var vars.fits) ∙ ap (λ n. take n file.vars) (sym vars.more)
 
   pub vars_taken : (first count : ℕ) → file.order ≡ before ++ (statement.Vars first count ∷ after) →
-      IsValid (front file before) → (text : List ℕ) (at : ℕ) →
+      AreDistinct (names_of (front file before)) → (text : List ℕ) (at : ℕ) →
       Placed text at (laid_statement file (statement.Vars first count)).pieces →
       IsTaken (front file before) text ((laid_statement file (statement.Vars first count)).raw at)
       (front file (before ++ statement.Vars first count ∷ []))
-  vars_taken first count split front_valid text at placed =
+  vars_taken first count split distinct text at placed =
       let s = statement.Vars first count in
       let g = front file before in
       let vars = are_next first count split in
@@ -130,7 +130,7 @@ module _ (file : File) (valid : IsValid file) (before after : List Statement) wh
       let sort_bytes : bytes_at text sort ≡ sort_name file of =
       span_bytes text (at + width head) kinds.Name (sort_name file of) dot
       (placed_right text at head (name (sort_name file of) ∷ dot) placed) in
-      let (number, used) = sort_used g text file front_valid (grows file before) of sort
+      let (number, used) = sort_used g text file distinct (grows file before) of sort
       (vars_sorted first count split vars.some) sort_bytes in
       let new : vars_of g text (number_at g text sort) spans ≡ map (var_at file) (numbers_from first count) =
       ap (λ n. vars_of g text n spans) number ∙ declared_vars file g text of first count spans vars.one_sort bytes in
