@@ -143,8 +143,10 @@ module _ (file g : File) (text : List ℕ) (distinct : AreDistinct (names_of g))
   var_clear : (k : ℕ) → Clear (Var k)
   unfolding fold_term fold_under
   var_clear k rules at placed =
-      record { back = (term_back file g text distinct grows (Var k) rules.range at placed).0; clear =
-      λ final in_fields. refl }
+      record {
+        back = (term_back file g text distinct grows (Var k) rules.range at placed).0;
+        clear = λ final in_fields. refl;
+      }
 
   int_clear : (n : ℤ) → Clear (Int n)
   unfolding fold_term fold_under
