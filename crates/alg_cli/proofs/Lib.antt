@@ -10,6 +10,7 @@ pub mod Fresh
 pub mod FrontNames
 pub mod Fronts
 pub mod GoalsBack
+pub mod LaidMethods
 pub mod LaidStatements
 pub mod LaidTerms
 pub mod NamesTaken
