@@ -1,9 +1,12 @@
 pub mod Answered
+pub mod Closed
 pub mod DeclarationsBack
 pub mod Derived
 pub mod DerivedGoals
 pub mod DerivedStatements
 pub mod DerivedTerms
+pub mod DividesBack
+pub mod EquationsBack
 pub mod FileTokens
 pub mod FilesBack
 pub mod Fresh
@@ -23,6 +26,7 @@ pub mod PlainPieces
 pub mod ReadAt
 pub mod ShallowTerms
 pub mod Shrinking
+pub mod SortRules
 pub mod SortsBack
 pub mod SpelledStatements
 pub mod SpelledTerms
@@ -32,6 +36,7 @@ pub mod StatementsRead
 pub mod Steps
 pub mod Taken
 pub mod TermsBack
+pub mod UsedBefore
 pub mod Utf8Text
 pub mod VarLists
 pub mod VarsBack
