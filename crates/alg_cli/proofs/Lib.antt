@@ -4,6 +4,7 @@ pub mod Derived
 pub mod DerivedGoals
 pub mod DerivedStatements
 pub mod DerivedTerms
+pub mod EvenPieces
 pub mod FileTokens
 pub mod FilesBack
 pub mod Fresh
@@ -24,8 +25,11 @@ pub mod ReadAt
 pub mod ShallowTerms
 pub mod Shrinking
 pub mod SortsBack
+pub mod SpelledMethods
 pub mod SpelledStatements
 pub mod SpelledTerms
+pub mod StandingGoals
+pub mod StandingMethods
 pub mod StandingStatements
 pub mod StandingTerms
 pub mod StatementsRead
