@@ -7,6 +7,7 @@ pub mod DerivedStatements
 pub mod DerivedTerms
 pub mod DividesBack
 pub mod EquationsBack
+pub mod EvenPieces
 pub mod FileTokens
 pub mod FilesBack
 pub mod Fresh
@@ -28,8 +29,11 @@ pub mod ShallowTerms
 pub mod Shrinking
 pub mod SortRules
 pub mod SortsBack
+pub mod SpelledMethods
 pub mod SpelledStatements
 pub mod SpelledTerms
+pub mod StandingGoals
+pub mod StandingMethods
 pub mod StandingStatements
 pub mod StandingTerms
 pub mod StatementsRead
