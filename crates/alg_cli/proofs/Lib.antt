@@ -1,4 +1,5 @@
 pub mod Answered
+pub mod Closed
 pub mod DeclarationsBack
 pub mod Derived
 pub mod DerivedGoals
