@@ -33,6 +33,7 @@ pub mod StatementsRead
 pub mod Steps
 pub mod Taken
 pub mod TermsBack
+pub mod UsesBack
 pub mod Utf8Text
 pub mod VarLists
 pub mod VarsBack
