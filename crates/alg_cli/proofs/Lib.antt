@@ -14,6 +14,7 @@ pub mod GoalsBack
 pub mod LaidMethods
 pub mod LaidStatements
 pub mod LaidTerms
+pub mod MethodsBack
 pub mod NamesTaken
 pub mod NextLists
 pub mod OpenBytes

@@ -87,8 +87,8 @@ declared_hyp g distinct h low =
     let new : IsNew name three =
     subst (λ n. IsNew n three) here (apart_at three hyps h [] (distinct_apart three hyps distinct) inside) in
     let two : IsNew name (sorts ++ homs) = recursion_left P (sorts ++ homs) vars new in
-    let place : position (bytes_eq name) hyps ≡ Some h =
-    subst (λ n. position (bytes_eq n) hyps ≡ Some h) here (found_at hyps h [] (distinct_right three hyps distinct) inside) in
+    let there = found_at hyps h [] (distinct_right three hyps distinct) inside in
+    let place = subst (λ n. position (bytes_eq n) hyps ≡ Some h) here there in
     let no_sort = not_found name sorts (recursion_left P sorts homs two) in
     let no_hom = not_found name homs (recursion_right P sorts homs two) in
     let no_var = not_found name vars (recursion_right P (sorts ++ homs) vars new) in

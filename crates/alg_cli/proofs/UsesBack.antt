@@ -1,9 +1,9 @@
--- The raw uses of a canonical text resolve to the uses, and have no faults, in the front of a file that has their names.
+-- The raw use of a canonical text resolves to the use, and has no faults, in the front of a file that has its names.
 use Rattle.std.proofs.Common.{◌≡◌, ◌≢◌, ◌<◌, ℕ, ◌+◌, Bool, true, false, List, [], ◌∷◌, ◌++◌, ◌⊎◌, inl, inr, length, map, Some, refl, sym, ap, ◌∙◌, subst, arith}
 use Rattle.std.specs.Prelude.{All, not, ◌==◌, ◌&&◌}
 use Rattle.std.specs.List.{AllByRecursion, flat_map}
 use Rattle.std.proofs.lemmas.Bool.Decides.{nat_tests}
-use Rattle.std.proofs.lemmas.List.Elements.{recursion_from_All}
+use Rattle.std.proofs.lemmas.List.Elements.{All-nil, All-cons, All-head, All-tail, recursion_from_All}
 use Rattle.alg_terms.specs.declared.declarations.Kind.{Kind}
 use Rattle.alg_terms.specs.declared.declarations.Kind.TheVariants.{Ring, Domain, Field}
 use Rattle.alg_terms.specs.declared.file.File.{File}
@@ -23,6 +23,7 @@ use Rattle.alg_typing.specs.Resolved.{number_at, use_of}
 use Rattle.alg_typing.specs.SortFaults.{is_field, sort_along, path_sorts, is_bad_unequal, use_sorts, start_of}
 use Rattle.alg_typing.proofs.FreshNames.{AreDistinct}
 use Rattle.alg_typing.proofs.Growing.{Grows, kind_same, source_same, target_same}
+use Rattle.alg_typing.proofs.Ordering.{all_left, all_right}
 use Rattle.alg_printer.specs.Names.{hom_name}
 use Rattle.alg_cli.proofs.Closed.{IsClosed}
 use Rattle.alg_cli.proofs.LaidMethods.{hyp_name, path_pieces, path_raw, use_pieces, use_raw}
@@ -61,6 +62,19 @@ use_by used path hyp p q =
 pub record IsUseInRange (g : File) (used : Use) : Type 0 where
   pub hyp : used.hyp < length g.hyps
   pub path : All (λ f. f < length g.homs) used.path
+
+-- uses whose numbers and morphisms, put together, the file has
+pub uses_in_range : (g : File) (uses : List Use) → All (λ h. h < length g.hyps) (map (λ used. used.hyp) uses) →
+    All (λ f. f < length g.homs) (flat_map (λ used. used.path) uses) → All (IsUseInRange g) uses
+uses_in_range g [] hyps homs = All-nil (IsUseInRange g)
+uses_in_range g (used ∷ uses) hyps homs =
+    let Low : ℕ → Type 0 = λ h. h < length g.hyps in
+    let Near : ℕ → Type 0 = λ f. f < length g.homs in
+    let numbers = map (λ used. used.hyp) uses in
+    let paths = flat_map (λ used. used.path) uses in
+    let hyp = All-head Low used.hyp numbers hyps in
+    let later = uses_in_range g uses (All-tail Low used.hyp numbers hyps) (all_right Near used.path paths homs) in
+    All-cons (IsUseInRange g) used uses (record { hyp = hyp; path = all_left Near used.path paths homs }) later
 
 -- a raw use that comes back: it resolves to the use, and its names have no faults
 pub record IsUseBack (g : File) (text : List ℕ) (used : Use) (raw : RawUse) : Type 0 where
