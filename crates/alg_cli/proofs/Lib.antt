@@ -17,6 +17,7 @@ pub mod GoalsBack
 pub mod LaidMethods
 pub mod LaidStatements
 pub mod LaidTerms
+pub mod MethodsBack
 pub mod NamesTaken
 pub mod NextLists
 pub mod OpenBytes
@@ -41,6 +42,7 @@ pub mod Steps
 pub mod Taken
 pub mod TermsBack
 pub mod UsedBefore
+pub mod UsesBack
 pub mod Utf8Text
 pub mod VarLists
 pub mod VarsBack
