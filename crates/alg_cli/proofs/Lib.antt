@@ -1,5 +1,6 @@
 pub mod Answered
 pub mod Closed
+pub mod ClosedFronts
 pub mod DeclarationsBack
 pub mod Derived
 pub mod DerivedGoals
@@ -14,6 +15,7 @@ pub mod Fresh
 pub mod FrontNames
 pub mod Fronts
 pub mod GoalsBack
+pub mod HypsBack
 pub mod LaidMethods
 pub mod LaidStatements
 pub mod LaidTerms

@@ -32,7 +32,8 @@ use Rattle.alg_cli.proofs.LaidMethods.{use_pieces, use_raw, later_uses, uses_pie
 use Rattle.alg_cli.proofs.NamesTaken.{two_empty}
 use Rattle.alg_cli.proofs.Placed.{Placed, placed_left, placed_right}
 use Rattle.alg_cli.proofs.SortsBack.{no_cause}
-use Rattle.alg_cli.proofs.UsesBack.{IsUseInRange, IsUseBack, use_back, use_clear, field_passes}
+use Rattle.alg_cli.proofs.SortRules.{field_passes}
+use Rattle.alg_cli.proofs.UsesBack.{IsUseInRange, IsUseBack, use_back, use_clear}
 
 -- a domain is no mere ring by the test
 no_ring : (kind : Kind) → IsDomain kind → is_ring kind ≡ false

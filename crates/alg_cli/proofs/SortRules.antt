@@ -29,6 +29,7 @@ abbrev pub to_fields : File → List ℕ → Bool
 to_fields g [] = true
 to_fields g (f ∷ above) = to_fields g above && is_field (kind_of g (target_of g f))
 
+-- a field is one by the test
 pub field_passes : (kind : Kind) → IsField kind → is_field kind ≡ true
 field_passes Ring h = absurd h
 field_passes Domain h = absurd h

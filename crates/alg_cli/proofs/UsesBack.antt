@@ -30,18 +30,13 @@ use Rattle.alg_cli.proofs.LaidMethods.{hyp_name, path_pieces, path_raw, use_piec
 use Rattle.alg_cli.proofs.LaidTerms.{sign, span, in_parentheses}
 use Rattle.alg_cli.proofs.NamesTaken.{hyp_used}
 use Rattle.alg_cli.proofs.Placed.{Placed, placed_left, span_bytes}
+use Rattle.alg_cli.proofs.SortRules.{field_passes}
 use Rattle.alg_cli.proofs.SortsBack.{no_cause}
 use Rattle.alg_cli.proofs.TermsBack.{hom_used}
 
 -- numbers that are equal don't differ
 never_differ : (a b : ℕ) → a ≡ b → not (a == b) ≡ false
 never_differ a b same = grind (arith, nat_tests)
-
--- a field is one by the test
-pub field_passes : (kind : Kind) → IsField kind → is_field kind ≡ true
-field_passes Ring h = absurd h
-field_passes Domain h = absurd h
-field_passes Field h = refl
 
 bool_cases : (b : Bool) → (b ≡ true) ⊎ (b ≡ false)
 bool_cases true = inl refl
