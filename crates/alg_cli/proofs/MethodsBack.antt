@@ -19,12 +19,11 @@ use Rattle.alg_terms.specs.Members.{kind_of, uses_of}
 use Rattle.alg_terms.specs.Valid.{names_of}
 use Rattle.alg_tokens.specs.Laws.{width}
 use Rattle.alg_reader.specs.declared.raw.RawMethod.{RawMethod}
-use Rattle.alg_reader.specs.declared.raw.RawNumber.{RawNumber}
 use Rattle.alg_reader.specs.declared.raw.RawUse.{RawUse}
 use Rattle.alg_typing.specs.Faults.{fault_if}
 use Rattle.alg_typing.specs.NameFaults.{use_names, method_names}
 use Rattle.alg_typing.specs.Resolved.{use_of, method_of}
-use Rattle.alg_typing.specs.SortFaults.{is_ring, is_field, is_no_field, use_sorts, option_range, method_sorts, may_divide_by}
+use Rattle.alg_typing.specs.SortFaults.{is_ring, is_no_field, use_sorts, option_range, method_sorts, may_divide_by}
 use Rattle.alg_typing.proofs.FreshNames.{AreDistinct}
 use Rattle.alg_typing.proofs.Growing.{Grows, kind_same}
 use Rattle.alg_cli.proofs.Closed.{IsClosed}
@@ -33,7 +32,7 @@ use Rattle.alg_cli.proofs.NamesTaken.{two_empty}
 use Rattle.alg_cli.proofs.Placed.{Placed, placed_left, placed_right}
 use Rattle.alg_cli.proofs.SortsBack.{no_cause}
 use Rattle.alg_cli.proofs.SortRules.{field_passes}
-use Rattle.alg_cli.proofs.UsesBack.{IsUseInRange, IsUseBack, use_back, use_clear}
+use Rattle.alg_cli.proofs.UsesBack.{IsUseInRange, use_back, use_clear}
 
 -- a domain is no mere ring by the test
 no_ring : (kind : Kind) → IsDomain kind → is_ring kind ≡ false

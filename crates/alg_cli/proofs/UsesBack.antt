@@ -15,6 +15,7 @@ use Rattle.alg_terms.specs.Sorts.{Leads}
 use Rattle.alg_terms.specs.Valid.{names_of}
 use Rattle.alg_tokens.specs.declared.token.Sign.TheVariants as signs
 use Rattle.alg_tokens.specs.declared.token.TokenKind.TheVariants as kinds
+use Rattle.alg_tokens.specs.declared.token.Refusal.{Refusal}
 use Rattle.alg_reader.specs.declared.raw.RawUse.{RawUse}
 use Rattle.alg_typing.specs.Faults.{fault_if}
 use Rattle.alg_typing.specs.NameFaults.{used_name, use_names}
@@ -28,7 +29,7 @@ use Rattle.alg_printer.specs.Names.{hom_name}
 use Rattle.alg_cli.proofs.Closed.{IsClosed}
 use Rattle.alg_cli.proofs.LaidMethods.{hyp_name, path_pieces, path_raw, use_pieces, use_raw}
 use Rattle.alg_cli.proofs.LaidTerms.{sign, span, in_parentheses}
-use Rattle.alg_cli.proofs.NamesTaken.{hyp_used}
+use Rattle.alg_cli.proofs.NamesTaken.{hyp_used, two_empty}
 use Rattle.alg_cli.proofs.Placed.{Placed, placed_left, span_bytes}
 use Rattle.alg_cli.proofs.SortRules.{field_passes}
 use Rattle.alg_cli.proofs.SortsBack.{no_cause}
@@ -145,7 +146,7 @@ module _ (file g : File) (text : List ℕ) (distinct : AreDistinct (names_of g))
             (no_cause wrong 9 at (never_differ along _ (below.along ∙ source))) ∙ below.clear;
       }
 
-  -- a `<>` under a path is one of a field
+  -- a `<>` under a path is one of a field, in the front too
   unequal_clear : (path : List ℕ) (h at : ℕ) → (path ≢ [] → (hyp_at g h).nonzero ≡ true →
       is_field (kind_of g (hyp_at g h).equation.sort) ≡ true) →
       is_bad_unequal g text (path_raw file at path (hyp_name file h)).path h ≡ false
@@ -153,26 +154,33 @@ module _ (file g : File) (text : List ℕ) (distinct : AreDistinct (names_of g))
   unequal_clear (f ∷ path) h at field =
       asked_holds (hyp_at g h).nonzero (is_field (kind_of g (hyp_at g h).equation.sort)) (field (λ same. absurd (cc)))
 
+  field_there : (s : ℕ) (used : Use) → IsClosed g → IsUseInRange g used → IsUse file s used → used.path ≢ [] →
+      (hyp_at g used.hyp).nonzero ≡ true → is_field (kind_of g (hyp_at g used.hyp).equation.sort) ≡ true
+  field_there s used closed range is some unequal =
+      let sort = (hyp_at g used.hyp).equation.sort in
+      let same = grows.hyps used.hyp range.hyp in
+      let field = is.nonzero (ap (λ hyp. hyp.nonzero) same ∙ unequal) some in
+      let moved = subst (λ hyp. IsField (kind_of file hyp.equation.sort)) same field in
+      field_passes (kind_of g sort)
+      (subst IsField (kind_same g file grows sort (closed.hyps used.hyp no_hyp range.hyp)) moved)
+
   -- a use in a goal of its sort has no faults of sorts
   pub use_clear : (s : ℕ) (used : Use) (at : ℕ) → IsClosed g → IsUseInRange g used → IsUse file s used →
       Placed text at (use_pieces file used) → use_sorts g text (Some s) (use_raw file at used) ≡ []
   use_clear s used at closed range is placed =
       let raw = use_raw file at used in
+      let first = start_of raw in
       let homs = recursion_from_All (λ f. f < length g.homs) used.path range.path in
       let number = (path_back used.path used.hyp at range.hyp homs placed).hyp in
       let path = path_clear used.path used.hyp s at range.hyp homs is.sorts placed in
-      let same = grows.hyps used.hyp range.hyp in
-      let there : (hyp_at g used.hyp).equation.sort < length g.sorts = closed.hyps used.hyp no_hyp range.hyp in
-      let bad = unequal_clear used.path used.hyp at (λ some unequal.
-          let field = is.nonzero (ap (λ hyp. hyp.nonzero) same ∙ unequal) some in
-          let moved = subst (λ hyp. IsField (kind_of file hyp.equation.sort)) same field in
-          field_passes (kind_of g (hyp_at g used.hyp).equation.sort)
-          (subst IsField (kind_same g file grows (hyp_at g used.hyp).equation.sort there) moved)) in
-      let first = start_of raw in
-      ap (λ hyp. path_sorts g text raw.path hyp ++ fault_if (not (sort_along g text raw.path hyp == s)) 9 first
-          ++ fault_if (is_bad_unequal g text raw.path hyp) 15 first) number
-      ∙ ap (λ x. x ++ fault_if (not (sort_along g text raw.path used.hyp == s)) 9 first
-          ++ fault_if (is_bad_unequal g text raw.path used.hyp) 15 first) path.clear
-      ∙ ap (λ x. x ++ fault_if (is_bad_unequal g text raw.path used.hyp) 15 first)
-      (no_cause (not (sort_along g text raw.path used.hyp == s)) 9 first (never_differ _ s path.along))
-      ∙ no_cause (is_bad_unequal g text raw.path used.hyp) 15 first bad
+      let other : ℕ → Bool = λ hyp. not (sort_along g text raw.path hyp == s) in
+      let bad : ℕ → Bool = λ hyp. is_bad_unequal g text raw.path hyp in
+      let faults : ℕ → List Refusal =
+      λ hyp. path_sorts g text raw.path hyp ++ fault_if (other hyp) 9 first ++ fault_if (bad hyp) 15 first in
+      let no_other = no_cause (other used.hyp) 9 first (never_differ _ s path.along) in
+      let no_bad = no_cause (bad used.hyp) 15 first
+      (unequal_clear used.path used.hyp at (field_there s used closed range is)) in
+      ap faults number
+      ∙ two_empty (path_sorts g text raw.path used.hyp ++ fault_if (other used.hyp) 9 first)
+      (fault_if (bad used.hyp) 15 first)
+      (two_empty (path_sorts g text raw.path used.hyp) (fault_if (other used.hyp) 9 first) path.clear no_other) no_bad
