@@ -1,7 +1,9 @@
 pub mod Answered
 pub mod DeclarationsBack
 pub mod Derived
+pub mod DerivedForms
 pub mod DerivedGoals
+pub mod DerivedMethods
 pub mod DerivedStatements
 pub mod DerivedTerms
 pub mod FileTokens
