@@ -113,6 +113,14 @@ spaced_before f g k bytes q at place there y place_is there_is c d =
     ∙ ap (λ n. token_at k bytes n ∷ tokens_of (n + length bytes + 1) q) place_is)
     (both f g (token_at k bytes place ∷ []) (tokens_of there q) (one (token_at k bytes place)) y c d)
 
+-- a token and a space before pieces, by the place of these
+pub front_before : (k : TokenKind) (bytes : List ℕ) (g : Form) (q : List Piece) (at there : ℕ) (y : Value) →
+    there ≡ at + length bytes + 1 → IsDerived g (tokens_of there q) y →
+    IsDerived (seq (a k) g) (tokens_of at (Lexeme k bytes ∷ space ∷ q)) (two (one (token_at k bytes at)) y)
+front_before k bytes g q at there y there_is d =
+    subst (λ n. IsDerived (seq (a k) g) (token_at k bytes at ∷ tokens_of n q) (two (one (token_at k bytes at)) y))
+    there_is (token_before k (token_at k bytes at) g (tokens_of there q) y refl d)
+
 -- a body of a statement before its dot
 pub statement_from : (p : List Piece) (at : ℕ) (kind : RawKind) → IsDerived body (tokens_of at p) (kind_value kind) →
     IsStatement (tokens_of at (p ++ dot)) kind

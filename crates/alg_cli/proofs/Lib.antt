@@ -3,6 +3,7 @@ pub mod DeclarationsBack
 pub mod Derived
 pub mod DerivedForms
 pub mod DerivedGoals
+pub mod DerivedHyps
 pub mod DerivedMethods
 pub mod DerivedStatements
 pub mod DerivedTerms
