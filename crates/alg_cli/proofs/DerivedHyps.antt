@@ -1,5 +1,5 @@
 -- The grammar derives the canonical text of each hypothesis, as the raw statement that it is.
-use Rattle.std.proofs.Common.{◌≡◌, ℕ, ◌+◌, Bool, true, false, List, [], ◌∷◌, ◌++◌, length, refl, sym, ap, ◌∙◌, subst, arith, append_assoc}
+use Rattle.std.proofs.Common.{◌≡◌, ℕ, ◌+◌, Bool, true, false, List, [], ◌∷◌, ◌++◌, length, refl, sym, subst, arith, append_assoc}
 use Rattle.alg_terms.specs.declared.file.File.{File}
 use Rattle.alg_terms.specs.declared.goals.Hyp.{Hyp}
 use Rattle.alg_tokens.specs.declared.token.Sign.TheVariants as signs
@@ -51,14 +51,14 @@ hyp_pieces bytes nonzero l r = simp append_assoc
 
 -- by the places of its parts
 hyp_read : (bytes : List ℕ) (nonzero : Bool) (l r : List Piece) (t u : RawTerm)
-    (at name_at_place left_at relation_at right_at : ℕ) → name_at_place ≡ at + 3 + 1 →
-    left_at ≡ name_at_place + length bytes + 1 + 1 + 1 → relation_at ≡ left_at + width l + 1 →
+    (at place left_at relation_at right_at : ℕ) → place ≡ at + 3 + 1 →
+    left_at ≡ place + length bytes + 1 + 1 + 1 → relation_at ≡ left_at + width l + 1 →
     right_at ≡ relation_at + length (sign_spelling (relation_sign nonzero)) + 1 →
     IsDerived (rule rules.Sum) (tokens_of left_at l) (term t) →
     IsDerived (rule rules.Sum) (tokens_of right_at r) (term u) →
     IsStatement (tokens_of at ((word words.Hyp ∷ space ∷ name bytes ∷ space ∷ sign signs.Colon ∷ space ∷
     (l ++ (space ∷ sign (relation_sign nonzero) ∷ space ∷ r))) ++ dot))
-    (raws.Hyp (span name_at_place bytes)
+    (raws.Hyp (span place bytes)
     (record { left = t; relation = relation_at; nonzero = nonzero; right = u }))
 unfolding grammar act
 hyp_read bytes nonzero l r t u at place left_at relation_at right_at place_is left_is relation_is right_is d e =

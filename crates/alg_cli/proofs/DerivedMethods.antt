@@ -8,26 +8,23 @@ use Rattle.alg_tokens.specs.declared.token.Sign.TheVariants as signs
 use Rattle.alg_tokens.specs.declared.token.TokenKind.TheVariants as kinds
 use Rattle.alg_tokens.specs.declared.token.Word.{Word}
 use Rattle.alg_tokens.specs.declared.token.Word.TheVariants as words
-use Rattle.alg_tokens.specs.Pieces.{Piece}
-use Rattle.alg_tokens.specs.Spelling.{spelling, sign_spelling}
+use Rattle.alg_tokens.specs.Spelling.{spelling}
 use Rattle.alg_tokens.specs.Laws.{width, tokens_of}
 use Rattle.alg_reader.specs.declared.raw.RawMethod.TheVariants as methods
-use Rattle.alg_reader.specs.declared.raw.RawNumber.{RawNumber}
-use Rattle.alg_reader.specs.declared.raw.RawUse.{RawUse}
 use Rattle.alg_reader.specs.Forms as rules
-use Rattle.alg_reader.specs.Forms.{Form, a, seq, alt, opt, many, rule}
+use Rattle.alg_reader.specs.Forms.{Form, seq, many, rule}
 use Rattle.alg_reader.specs.Grammar as forms
-use Rattle.alg_reader.specs.Grammar.{grammar, number, option, options, using, inside}
+use Rattle.alg_reader.specs.Grammar.{grammar, number, option, using, inside}
 use Rattle.alg_reader.specs.TermMeaning.{Value, one, two, nothing, used, method}
 use Rattle.alg_reader.specs.PartMeaning.{uses_after, uses_of}
 use Rattle.alg_reader.specs.Meaning.{act}
 use Rattle.alg_printer.specs.Names.{hom_name}
-use Rattle.alg_cli.proofs.LaidTerms.{space, sign, word, name, numeral, span, in_parentheses}
+use Rattle.alg_cli.proofs.LaidTerms.{space, sign, word, numeral}
 use Rattle.alg_cli.proofs.LaidMethods.{hyp_name, path_pieces, path_raw, use_pieces, use_raw, later_uses, uses_pieces, uses_raw, option_pieces, method_pieces, method_raw}
 use Rattle.alg_cli.proofs.ReadAt.{tokens_append, numeral_tree}
 use Rattle.alg_cli.proofs.DerivedTerms.{sign_at}
 use Rattle.alg_cli.proofs.DerivedStatements.{word_at, name_at}
-use Rattle.alg_cli.proofs.DerivedForms.{IsDerived, token_at, one_token, both, first_way, other_way, given, left_out, no_more, once_more, by_rule, token_before, pieces_before, spaced_before}
+use Rattle.alg_cli.proofs.DerivedForms.{IsDerived, token_at, one_token, first_way, other_way, given, left_out, no_more, once_more, by_rule, token_before, pieces_before, spaced_before}
 
 -- ---- uses
 

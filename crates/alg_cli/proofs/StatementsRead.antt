@@ -1,6 +1,6 @@
 -- The canonical text of each statement stands by the grammar as the raw statement that it is, and where it can be read
 -- today, it is read so.
-use Rattle.std.proofs.Common.{◌≡◌, ◌≤◌, inr, ℕ, List, [], ◌∷◌, ◌++◌, flat_map, length, None, Ok, refl, sym, ap, ◌∙◌, subst, arith}
+use Rattle.std.proofs.Common.{◌≡◌, ◌≤◌, inr, ℕ, List, [], ◌∷◌, ◌++◌, flat_map, None, Ok, refl, sym, ap, ◌∙◌, subst, arith}
 use Rattle.std.specs.Option.{option_or}
 use Rattle.std.proofs.lemmas.List.Concat.{flat_map-append}
 use Rattle.alg_terms.specs.declared.file.File.{File}
@@ -93,7 +93,8 @@ abbrev pub BeginsAt : ℕ → List Token → Type 0
 BeginsAt at tokens = (first : Token) × (more : List Token) × (tokens ≡ first ∷ more) × (at ≡ first.start)
 
 -- of each statement
-pub statement_begins : (file : File) (s : Statement) (at : ℕ) → BeginsAt at (tokens_of at (laid_statement file s).pieces)
+pub statement_begins : (file : File) (s : Statement) (at : ℕ) →
+    BeginsAt at (tokens_of at (laid_statement file s).pieces)
 statement_begins file (statement.Sort s) at = (_, _, refl, refl)
 statement_begins file (statement.Hom f) at = (_, _, refl, refl)
 statement_begins file (statement.Vars first count) at = (_, _, refl, refl)
