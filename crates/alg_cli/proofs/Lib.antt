@@ -3,7 +3,10 @@ pub mod Closed
 pub mod ClosedFronts
 pub mod DeclarationsBack
 pub mod Derived
+pub mod DerivedForms
 pub mod DerivedGoals
+pub mod DerivedHyps
+pub mod DerivedMethods
 pub mod DerivedStatements
 pub mod DerivedTerms
 pub mod DividesBack
