@@ -41,8 +41,8 @@ taken_all : {X : Type 0} (P : X → Type 0) (xs : List X) (n : ℕ) (d : X) →
     ((k : ℕ) → k < n → P (slice_index_or xs k d)) → All P (take n xs)
 taken_all P xs n d h =
     All-from_get_or P (take n xs) d (λ k low.
-        let below : k < n = omega (arith, low, length-take n xs) in
-        subst P (sym (get_or-take n xs k d below)) (h k below))
+    let below : k < n = omega (arith, low, length-take n xs) in
+    subst P (sym (get_or-take n xs k d below)) (h k below))
 
 -- so the front is closed
 pub front_closed : (file : File) (before : List Statement) → sorts_in before ≤ length file.sorts →
@@ -65,7 +65,7 @@ either_side k n = grind arith
 
 -- what holds of numbers below one and from there on
 on_both_sides : (P : ℕ → Type 0) (k n : ℕ) → (k < n → P k) → (n ≤ k → P k) → P k
-on_both_sides P k n below behind = elim (either_side k n) [ | inl low ↦ below low | inr high ↦ behind high ]
+on_both_sides P k n below behind = elim (either_side k n) [ inl low ↦ below low | inr high ↦ behind high ]
 
 module _ (file : File) (valid : IsValid file) (before : List Statement) (s : Statement) where
   abbrev with_s : List Statement

@@ -130,7 +130,7 @@ module _ (file : File) (valid : IsValid file) (before : List Statement) where
       (recursion_right (λ n. IsNew n hyps) (sorts ++ homs) vars (distinct_apart ((sorts ++ homs) ++ vars) hyps all))
       in (
         new_to_front name (new_take (λ sort. sort.name) name file.sorts (sorts_in before)
-        (recursion_left P sorts homs to_both))
+            (recursion_left P sorts homs to_both))
             (new_take (λ hom. hom.name) name file.homs (homs_in before) (recursion_right P sorts homs to_both))
             (new_fewer name file.vars (vars_in before) k here own) (first_hyps name to_hyps),
         own,
