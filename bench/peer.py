@@ -1,13 +1,13 @@
 #!/usr/bin/env python3
 """Compares the built program with a second prover on generated files. It is no test of the gate.
 
-Run from anywhere: bench/peer.py [COUNT] [SEED] [PROGRAM]. The program is `./alg` where none is
-named. The bytes of each file are given to `PROGRAM prove` and to `second.prover.prove`, and what
-is written and the exit status are compared: first files with known answers, then those at the
-limits, those with each token at each place of the grammar, and those with two faults, then COUNT
-generated ones (2,000 where none is given). A generated file depends on its number and on SEED
-alone. A file on which the two differ is kept in the folder peer_differences of the temporary
-folder. The exit status is 1 where some file differs.
+Run from anywhere: bench/peer.py [COUNT] [SEED] [PROGRAM]. Where no program is named, it is the one
+that `./alg` runs, which is built first where it is out of date. The bytes of each file are given to
+`PROGRAM prove` and to `second.prover.prove`, and what is written and the exit status are compared:
+first files with known answers, then those at the limits, those with each token at each place of
+the grammar, and those with two faults, then COUNT generated ones (2,000 where none is given). A
+generated file depends on its number and on SEED alone. A file on which the two differ is kept in
+the folder peer_differences of the temporary folder. The exit status is 1 where some file differs.
 """
 
 import os
@@ -28,7 +28,8 @@ from second.prover import prove
 TOP = os.path.dirname(os.path.dirname(os.path.abspath(__file__)))
 COUNT = int(sys.argv[1]) if len(sys.argv) > 1 else 2_000
 SEED = sys.argv[2] if len(sys.argv) > 2 else "0"
-PROGRAM = sys.argv[3] if len(sys.argv) > 3 else f"{TOP}/alg"
+BUILT = f"{TOP}/crates/alg_cli/out/alg_cli"
+PROGRAM = sys.argv[3] if len(sys.argv) > 3 else BUILT
 DIFFERENCES = os.path.join(tempfile.gettempdir(), "peer_differences")
 SECONDS = 60
 SHOWN = 200
@@ -110,6 +111,8 @@ FAMILIES = {
 
 
 def main():
+    if PROGRAM == BUILT:
+        subprocess.run([f"{TOP}/alg", "prove"], stdin=subprocess.DEVNULL, check=True)
     comparison = Comparison()
     for words in USAGES:
         comparison.compare_usage(words)

@@ -145,6 +145,7 @@ def refuse_first(faults):
 
 
 def depth_step(node, *parts):
+    """The depth of a node; the first in postorder that is too deep is refused at its head."""
     depth = 1 + max(parts, default=0)
     if depth > MAX_DEPTH:
         raise Refused(DEPTH, node.at)
@@ -152,6 +153,7 @@ def depth_step(node, *parts):
 
 
 def read_file(data):
+    """The file that the bytes are, or a refusal at their first fault."""
     try:
         data.decode()
     except UnicodeDecodeError as fault:
