@@ -116,7 +116,19 @@ def files_of_size():
     yield with_goal("f(" * 200 + "-" * 799 + "x" + ")" * 200, "0", head.decode())
 
 
+def files_of_paths():
+    """As many atoms as can be, or one more, each under a path of 181 morphisms."""
+    head = "ring R.\nhom f : R -> R.\nhom g : R -> R.\n"
+    for n in (1000, 1001):
+        names = [f"x{k}" for k in range(n)]
+        atoms = ["gf"[k % 2] + "(" + "f(" * 180 + name + ")" * 181 for k, name in enumerate(names)]
+        declared = head + f"var {' '.join(names)} : R.\n"
+        yield with_goal(balanced(atoms), f"{atoms[0]} + {atoms[-1]}", declared)
+        yield with_goal(f"{atoms[-1]}^2", f"{atoms[-1]}*({balanced(atoms)})", declared)
+
+
 def files_at_limits():
+    yield from files_of_paths()
     yield from files_of_nesting()
     yield from files_of_depth()
     yield from files_of_atoms()
