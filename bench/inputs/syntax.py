@@ -10,8 +10,9 @@ PLACES = """
 |hom|hom g|hom g :|hom g : R|hom g : R ->|hom g : R -> R
 |var|var z|var z z2|var z :|var z : R
 |hyp|hyp H|goal|goal -|goal (|goal x|goal 2|goal f|goal f(|goal f(x|goal f(x)|goal (x|goal (x)
-|goal ((x)|goal x +|goal x -|goal x *|goal x /|goal x^|goal x^2|goal f(x)^2|goal (x)^2|goal x^2*y|goal -x
-|goal x =|goal x = -|goal x = (|goal x = y|goal x = f|goal x = f(y)|goal x = (y|goal x = (y)
+|goal ((x)|goal x +|goal x -|goal x *|goal x /|goal x^|goal x^2|goal f(x)^2|goal (x)^2
+|goal x^2*y|goal -x|goal x =|goal x = -|goal x = (|goal x = y|goal x = f
+|goal x = f(y)|goal x = (y|goal x = (y)
 |goal x = y^2|goal x = y by|goal x = y by ring|goal x = y by field
 |goal x = y by nsatz|goal x = y by ring.
 """.replace("\n", "").split("|")
