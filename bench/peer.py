@@ -34,7 +34,7 @@ DIFFERENCES = os.path.join(tempfile.gettempdir(), "peer_differences")
 SECONDS = 60
 SHOWN = 200
 
-USAGES = ([], ["prove", "prove"], ["Prove"], ["prove "], [""], ["--help"], ["load"], ["usage"])
+USAGES = ([], [b"\xff"], [b"prove", b"\xff"], ["prove", "prove"], ["Prove"], ["prove "], [""], ["--help"], ["load"], ["usage"])
 
 
 def run(words, data):
