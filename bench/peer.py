@@ -34,7 +34,18 @@ DIFFERENCES = os.path.join(tempfile.gettempdir(), "peer_differences")
 SECONDS = 60
 SHOWN = 200
 
-USAGES = ([], [b"\xff"], [b"prove", b"\xff"], ["prove", "prove"], ["Prove"], ["prove "], [""], ["--help"], ["load"], ["usage"])
+USAGES = (
+    [],
+    [""],
+    ["Prove"],
+    ["prove "],
+    ["prove", "prove"],
+    ["--help"],
+    ["load"],
+    ["usage"],
+    [b"\xff"],
+    [b"prove", b"\xff"],
+)
 
 
 def run(words, data):
