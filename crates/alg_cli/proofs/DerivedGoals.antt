@@ -1,35 +1,37 @@
 -- The grammar derives the canonical text of variables and goals, as the raw statements that they are.
 use Rattle.std.proofs.Common.{◌≡◌, ◌≤◌, ℕ, suc, zero, ◌+◌, List, [], ◌∷◌, ◌++◌, false, length, map, refl, sym, ap, ◌∙◌, subst, arith, append_assoc}
 use Rattle.alg_terms.specs.declared.file.File.{File}
-use Rattle.alg_terms.specs.declared.goals.Equation.{Equation}
+use Rattle.alg_terms.specs.declared.goals.Goal.{Goal}
 use Rattle.alg_terms.specs.Members.{sort_of_var}
 use Rattle.alg_terms.specs.Order.{numbers_from}
 use Rattle.alg_tokens.specs.declared.token.Sign.TheVariants as signs
-use Rattle.alg_tokens.specs.declared.token.Token.{Token}
+use Rattle.alg_tokens.specs.declared.token.TokenKind.TheVariants as kinds
 use Rattle.alg_tokens.specs.declared.token.Word.TheVariants as words
 use Rattle.alg_tokens.specs.Pieces.{Piece, bytes_of}
+use Rattle.alg_tokens.specs.Spelling.{spelling, sign_spelling}
 use Rattle.alg_tokens.specs.Laws.{width, tokens_of}
 use Rattle.alg_reader.specs.declared.raw.RawKind.TheVariants as raws
-use Rattle.alg_reader.specs.declared.raw.RawMethod.TheVariants as methods
+use Rattle.alg_reader.specs.declared.raw.RawMethod.{RawMethod}
 use Rattle.alg_reader.specs.declared.raw.RawTerm.{RawTerm}
 use Rattle.alg_reader.specs.Forms as rules
-use Rattle.alg_reader.specs.Forms.{many, Tree, token, pair, left, right, end, more, node, spelled}
+use Rattle.alg_reader.specs.Forms.{seq, many, rule, Tree, token, pair, left, right, end, more, node, spelled}
 use Rattle.alg_reader.specs.Grammar as forms
 use Rattle.alg_reader.specs.Grammar.{grammar, Fits}
 use Rattle.alg_reader.specs.TermMeaning as meant
-use Rattle.alg_reader.specs.PartMeaning as parts
 use Rattle.alg_reader.specs.Meaning as value
-use Rattle.alg_reader.specs.TermMeaning.{Value, one, two, term}
-use Rattle.alg_reader.specs.PartMeaning.{spans, act_goal}
+use Rattle.alg_reader.specs.TermMeaning.{term, method}
+use Rattle.alg_reader.specs.PartMeaning.{spans}
 use Rattle.alg_reader.specs.Meaning.{act}
 use Rattle.alg_reader.specs.Statements.{IsStatement}
 use Rattle.alg_printer.specs.Names.{sort_name, var_name}
 use Rattle.alg_cli.proofs.LaidTerms.{space, sign, word, name, span, laid}
+use Rattle.alg_cli.proofs.LaidMethods.{method_pieces, method_raw}
 use Rattle.alg_cli.proofs.LaidStatements.{laid_vars, laid_goal, name_pieces, name_spans, dot}
-use Rattle.alg_cli.proofs.Derived.{Derives}
 use Rattle.alg_cli.proofs.ReadAt.{tokens_append}
 use Rattle.alg_cli.proofs.DerivedTerms.{sign_at, term_derived}
 use Rattle.alg_cli.proofs.DerivedStatements.{StatementReads, statement_of, word_at, name_at}
+use Rattle.alg_cli.proofs.DerivedForms.{IsDerived, one_token, other_way, by_rule, term_means, pieces_before, spaced_before, front_before, statement_from}
+use Rattle.alg_cli.proofs.DerivedMethods.{method_derived}
 
 -- the bytes of two lists of pieces
 pub width_append : (before after : List Piece) → width (before ++ after) ≡ width before + width after
@@ -110,72 +112,49 @@ vars_derived file first (suc count) some =
 -- ---- goals
 
 -- the pieces of a goal from left to right
-goal_pieces : (l r : List Piece) → ((((word words.Goal ∷ space ∷ []) ++ (l ++ (space ∷ [])))
-    ++ (sign signs.Equal ∷ space ∷ [])) ++ (r ++ (space ∷ word words.By ∷ space ∷ [])))
-    ++ (word words.Ring ∷ dot) ≡ word words.Goal ∷ space ∷ (l ++ (space ∷ sign signs.Equal ∷ space ∷
-    (r ++ (space ∷ word words.By ∷ space ∷ word words.Ring ∷ dot))))
-goal_pieces l r = simp append_assoc
-
--- what a goal's derivation spells and says
-goal_spelled : (first equal by_word ring point : Token) (l l2 r r2 : List Token) → l ≡ l2 → r ≡ r2 →
-    (first ∷ (l ++ (equal ∷ (r ++ (by_word ∷ ring ∷ []))))) ++ (point ∷ []) ≡
-    first ∷ (l2 ++ (equal ∷ (r2 ++ (by_word ∷ ring ∷ point ∷ []))))
-goal_spelled first equal by_word ring point l l2 r r2 e f =
-    ap (λ ts. first ∷ ((ts ++ (equal ∷ (r ++ (by_word ∷ ring ∷ [])))) ++ (point ∷ []))) e
-    ∙ ap (λ ts. first ∷ ((l2 ++ (equal ∷ (ts ++ (by_word ∷ ring ∷ [])))) ++ (point ∷ []))) f
-    ∙ ap (λ ts. first ∷ ts) (append_assoc l2 (equal ∷ (r2 ++ (by_word ∷ ring ∷ []))) (point ∷ [])
-    ∙ ap (λ ts. l2 ++ (equal ∷ ts)) (append_assoc r2 (by_word ∷ ring ∷ []) (point ∷ [])))
-
-goal_said : (first equal by_word : Token) (x y : Value) (t u : RawTerm) (by_at : ℕ) → x ≡ term t → y ≡ term u →
-    act_goal (two (one first) (two x (two (one equal) (two y (two (one by_word) (meant.method methods.Ring by_at))))))
-    ≡ meant.goal (parts.sides t equal u) methods.Ring by_at
-goal_said first equal by_word x y t u by_at e f =
-    ap (λ v. act_goal (two (one first) (two v (two (one equal) (two y
-    (two (one by_word) (meant.method methods.Ring by_at))))))) e
-    ∙ ap (λ v. act_goal (two (one first) (two (term t) (two (one equal) (two v
-    (two (one by_word) (meant.method methods.Ring by_at))))))) f
+goal_pieces : (l r m : List Piece) → ((((word words.Goal ∷ space ∷ []) ++ (l ++ (space ∷ [])))
+    ++ (sign signs.Equal ∷ space ∷ [])) ++ (r ++ (space ∷ word words.By ∷ space ∷ []))) ++ (m ++ dot) ≡
+    (word words.Goal ∷ space ∷ (l ++ (space ∷ sign signs.Equal ∷ space ∷ (r ++ (space ∷ word words.By ∷ space ∷ m)))))
+    ++ dot
+goal_pieces l r m = simp append_assoc
 
 -- by the places of its parts
-goal_read : (l r : List Piece) (t u : RawTerm) (at left_at equal_at right_at by_at : ℕ) → left_at ≡ at + 4 + 1 →
-    equal_at ≡ left_at + width l + 1 → right_at ≡ equal_at + 1 + 1 → by_at ≡ right_at + width r + 1 + 2 + 1 →
-    Derives rules.Sum (tokens_of left_at l) t → Derives rules.Sum (tokens_of right_at r) u →
-    IsStatement (tokens_of at (word words.Goal ∷ space ∷ (l ++ (space ∷ sign signs.Equal ∷ space ∷
-    (r ++ (space ∷ word words.By ∷ space ∷ word words.Ring ∷ dot))))))
-    (raws.Goal (record { left = t; relation = equal_at; nonzero = false; right = u }) methods.Ring by_at)
+goal_read : (l r m : List Piece) (t u : RawTerm) (way : RawMethod) (at left_at equal_at right_at by_at : ℕ) →
+    left_at ≡ at + 4 + 1 → equal_at ≡ left_at + width l + 1 → right_at ≡ equal_at + 1 + 1 →
+    by_at ≡ right_at + width r + 1 + 2 + 1 → IsDerived (rule rules.Sum) (tokens_of left_at l) (term t) →
+    IsDerived (rule rules.Sum) (tokens_of right_at r) (term u) →
+    IsDerived (rule rules.Method) (tokens_of by_at m) (method way by_at) →
+    IsStatement (tokens_of at ((word words.Goal ∷ space ∷ (l ++ (space ∷ sign signs.Equal ∷ space ∷
+    (r ++ (space ∷ word words.By ∷ space ∷ m))))) ++ dot))
+    (raws.Goal (record { left = t; relation = equal_at; nonzero = false; right = u }) way by_at)
 unfolding grammar act
-goal_read l r t u at left_at equal_at right_at by_at left_is equal_is right_is by_is d e =
-    let first = word_at words.Goal at in
-    let equal = sign_at signs.Equal equal_at in
-    let by_word = word_at words.By (right_at + width r + 1) in
-    let ring = word_at words.Ring by_at in
-    let method = node rules.Method (right (left (token ring))) in
-    let behind = pair (token equal) (pair e.tree (pair (token by_word) method)) in
-    let last = by_word ∷ ring ∷ sign_at signs.Dot (by_at + 4) ∷ [] in
-    let end_pieces = space ∷ word words.By ∷ space ∷ word words.Ring ∷ dot in
-    let right_pieces = space ∷ sign signs.Equal ∷ space ∷ (r ++ end_pieces) in
-    let end_tokens : tokens_of (right_at + width r) end_pieces ≡ last =
-    ap (λ n. by_word ∷ word_at words.Ring n ∷ sign_at signs.Dot (n + 4) ∷ []) (sym by_is) in
-    let right_tokens : tokens_of (left_at + width l) right_pieces ≡ equal ∷ (tokens_of right_at r ++ last) =
-    ap (λ n. sign_at signs.Equal n ∷ tokens_of (n + 1 + 1) (r ++ end_pieces)) (sym equal_is)
-    ∙ ap (λ n. equal ∷ tokens_of n (r ++ end_pieces)) (sym right_is)
-    ∙ ap (λ ts. equal ∷ ts) (tokens_append right_at r end_pieces)
-    ∙ ap (λ ts. equal ∷ (tokens_of right_at r ++ ts)) end_tokens in
-    let all : tokens_of at (word words.Goal ∷ space ∷ (l ++ right_pieces)) ≡
-    first ∷ (tokens_of left_at l ++ (equal ∷ (tokens_of right_at r ++ last))) =
-    ap (λ n. first ∷ tokens_of n (l ++ right_pieces)) (sym left_is)
-    ∙ ap (λ ts. first ∷ ts) (tokens_append left_at l right_pieces)
-    ∙ ap (λ ts. first ∷ (tokens_of left_at l ++ ts)) right_tokens in
-    statement_of (right (right (right (right (right (node rules.Goal (pair (token first) (pair d.tree behind))))))))
-    (by_at + 4) _
-    (raws.Goal (record { left = t; relation = equal_at; nonzero = false; right = u }) methods.Ring by_at)
-    (refl, (refl, (d.fits, (refl, (e.fits, (refl, (refl, refl)))))))
-    (goal_spelled first equal by_word ring (sign_at signs.Dot (by_at + 4)) (spelled d.tree) (tokens_of left_at l)
-    (spelled e.tree) (tokens_of right_at r) d.spells e.spells ∙ sym all)
-    (goal_said first equal by_word (value.value d.tree) (value.value e.tree) t u by_at d.says e.says)
+goal_read l r m t u way at left_at equal_at right_at by_at left_is equal_is right_is by_is d e w =
+    let right_end = right_at + width r in
+    let by_form = seq (forms.word words.By) (rule rules.Method) in
+    let right_form = seq (rule rules.Sum) by_form in
+    let equal_form = seq (forms.sign signs.Equal) right_form in
+    let by_pieces = space ∷ word words.By ∷ space ∷ m in
+    let equal_pieces = space ∷ sign signs.Equal ∷ space ∷ (r ++ by_pieces) in
+    let by_part = spaced_before (forms.word words.By) (rule rules.Method) (kinds.Word words.By) (spelling words.By) m
+    right_end (right_end + 1) by_at (method way by_at) refl by_is
+    (one_token (kinds.Word words.By) (word_at words.By (right_end + 1)) refl) w in
+    let right_part = pieces_before (rule rules.Sum) by_form r by_pieces right_at right_end (term u) _ refl e by_part in
+    let equal_part = spaced_before (forms.sign signs.Equal) right_form (kinds.Sign signs.Equal)
+    (sign_spelling signs.Equal) (r ++ by_pieces) (left_at + width l) equal_at right_at _ equal_is right_is
+    (one_token (kinds.Sign signs.Equal) (sign_at signs.Equal equal_at) refl) right_part in
+    let left_part = pieces_before (rule rules.Sum) equal_form l equal_pieces left_at (left_at + width l) (term t) _ refl
+    d equal_part in
+    let all = front_before (kinds.Word words.Goal) (spelling words.Goal) (seq (rule rules.Sum) equal_form)
+    (l ++ equal_pieces) at left_at _ left_is left_part in
+    statement_from (word words.Goal ∷ space ∷ (l ++ equal_pieces)) at
+    (raws.Goal (record { left = t; relation = equal_at; nonzero = false; right = u }) way by_at)
+    (other_way _ _ _ _ (other_way _ _ _ _ (other_way _ _ _ _ (other_way _ _ _ _ (other_way _ _ _ _
+    (by_rule rules.Goal (word_at words.Goal at ∷ tokens_of (at + 4 + 1) (l ++ equal_pieces)) _ all))))))
 
--- a goal by ring
-pub goal_derived : (file : File) (e : Equation) → StatementReads (laid_goal file e)
-goal_derived file e at =
+-- a goal by any method
+pub goal_derived : (file : File) (goal : Goal) → StatementReads (laid_goal file goal)
+goal_derived file goal at =
+    let e = goal.equation in
     let l = (laid file e.left).pieces in
     let r = (laid file e.right).pieces in
     let front = word words.Goal ∷ space ∷ [] in
@@ -186,8 +165,12 @@ goal_derived file e at =
     let middle_wide = width_append equal (sign signs.Equal ∷ space ∷ []) in
     let r_wide = width_append r (space ∷ word words.By ∷ space ∷ []) in
     let by_wide = width_append middle (r ++ (space ∷ word words.By ∷ space ∷ [])) in
-    let raw = (laid_goal file e).raw at in
-    subst (λ pieces. IsStatement (tokens_of at pieces) raw) (sym (goal_pieces l r))
-    (goal_read l r _ _ at (at + width front) (at + width equal) (at + width middle) (at + width by)
+    let raw = (laid_goal file goal).raw at in
+    subst (λ pieces. IsStatement (tokens_of at pieces) raw)
+    (sym (goal_pieces l r (method_pieces file goal.method)))
+    (goal_read l r (method_pieces file goal.method) _ _ (method_raw file (at + width by) goal.method)
+    at (at + width front) (at + width equal) (at + width middle) (at + width by)
     (omega arith) (omega arith) (omega arith) (omega arith)
-    (term_derived file e.left (at + width front)) (term_derived file e.right (at + width middle)))
+    (term_means rules.Sum _ _ (term_derived file e.left (at + width front)))
+    (term_means rules.Sum _ _ (term_derived file e.right (at + width middle)))
+    (method_derived file goal.method (at + width by)))

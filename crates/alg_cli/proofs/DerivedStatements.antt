@@ -1,4 +1,4 @@
--- The grammar derives the canonical text of each statement that can be read, as the raw statement that it is.
+-- The grammar derives the canonical text of sorts and morphisms, as the raw statements that they are.
 use Rattle.std.proofs.Common.{◌≡◌, ℕ, ◌+◌, List, [], ◌∷◌, ◌++◌, Bool, true, false, pos, length, decimal, refl, sym, ap, ◌∙◌, arith}
 use Rattle.alg_terms.specs.declared.declarations.HomDecl.{HomDecl}
 use Rattle.alg_terms.specs.declared.declarations.Kind.{Kind}

@@ -6,7 +6,7 @@ use Rattle.std.proofs.lemmas.List.Elements.{recursion_from_All}
 use Rattle.alg_terms.specs.declared.file.File.{File}
 use Rattle.alg_terms.specs.declared.file.Statement.{Statement}
 use Rattle.alg_terms.specs.declared.file.Statement.TheVariants as statement
-use Rattle.alg_terms.specs.Members.{sort_at, hom_at, goal_at, sort_of_var}
+use Rattle.alg_terms.specs.Members.{sort_at, hom_at, hyp_at, goal_at, sort_of_var}
 use Rattle.alg_terms.specs.Order.{numbers_from}
 use Rattle.alg_terms.specs.Valid.{IsValid}
 use Rattle.alg_tokens.specs.declared.token.Sign.TheVariants as signs
@@ -23,9 +23,9 @@ use Rattle.alg_reader.proofs.Found.{all_split}
 use Rattle.alg_printer.specs.Names.{sort_name, var_name}
 use Rattle.alg_printer.specs.Text.{text_of, IsStatementOf}
 use Rattle.alg_printer.proofs.Declared.{statements_are_of}
-use Rattle.alg_cli.specs.ReadingBack.{IsReadToday}
-use Rattle.alg_cli.proofs.LaidTerms.{laid, line_feed, space, sign, word, name}
-use Rattle.alg_cli.proofs.LaidStatements.{laid_statement, kind_word, char_pieces, name_pieces, dot, file_pieces}
+use Rattle.alg_cli.proofs.LaidTerms.{line_feed, space, sign, word, name}
+use Rattle.alg_cli.proofs.LaidMethods.{method_pieces}
+use Rattle.alg_cli.proofs.LaidStatements.{laid_sides, laid_statement, goal_front, kind_word, char_pieces, name_pieces, dot, file_pieces}
 use Rattle.alg_cli.proofs.SpelledStatements.{line_pieces, spelled_file}
 use Rattle.alg_cli.proofs.StandingStatements.{stand_file}
 
@@ -111,29 +111,30 @@ tokens_to text from at (Lexeme other more ∷ front) rest kind bytes (next, lexe
 abbrev EndsDot : List Piece → Type 0
 EndsDot pieces = (front : List Piece) × (pieces ≡ front ++ dot)
 
-ends_dot : (front : List Piece) (piece : Piece) → EndsDot (front ++ (piece ∷ dot))
-ends_dot front piece = (front ++ (piece ∷ []), sym (append_assoc front (piece ∷ []) dot))
+ends_dot : (front back : List Piece) → EndsDot (front ++ (back ++ dot))
+ends_dot front back = (front ++ back, sym (append_assoc front back dot))
 
-statement_ends : (file : File) (s : Statement) → IsReadToday file → IsStatementOf file s →
-    EndsDot (laid_statement file s).pieces
-statement_ends file (statement.Sort s) today of =
+statement_ends : (file : File) (s : Statement) → EndsDot (laid_statement file s).pieces
+statement_ends file (statement.Sort s) =
     let sort = sort_at file s in
     (word (kind_word sort.kind) ∷ space ∷ name sort.name ∷ char_pieces sort.char0, refl)
-statement_ends file (statement.Hom f) today of =
+statement_ends file (statement.Hom f) =
     let hom = hom_at file f in
     let from = word words.Hom ∷ space ∷ name hom.name ∷ space ∷ sign signs.Colon ∷ space ∷ [] in
     ends_dot (from ++ (name (sort_name file hom.from) ∷ space ∷ sign signs.Arrow ∷ space ∷ []))
-    (name (sort_name file hom.to))
-statement_ends file (statement.Vars first count) today of =
+    (name (sort_name file hom.to) ∷ [])
+statement_ends file (statement.Vars first count) =
     let names = name_pieces (map (var_name file) (numbers_from first count)) in
     ends_dot (word words.Var ∷ (names ++ (space ∷ sign signs.Colon ∷ space ∷ [])))
-    (name (sort_name file (sort_of_var file first)))
-statement_ends file (statement.Hyp h) today of = let none = ap length today.hyps in absurd (omega (arith, none, of))
-statement_ends file (statement.Goal i) today of =
-    let e = (goal_at file i).equation in
-    let equal = (word words.Goal ∷ space ∷ []) ++ ((laid file e.left).pieces ++ (space ∷ [])) in
-    let middle = equal ++ (sign signs.Equal ∷ space ∷ []) in
-    ends_dot (middle ++ ((laid file e.right).pieces ++ (space ∷ word words.By ∷ space ∷ []))) (word words.Ring)
+    (name (sort_name file (sort_of_var file first)) ∷ [])
+statement_ends file (statement.Hyp h) =
+    let hyp = hyp_at file h in
+    let front = word words.Hyp ∷ space ∷ name hyp.name ∷ space ∷ sign signs.Colon ∷ space ∷ [] in
+    let sides = laid_sides file front hyp.nonzero hyp.equation in
+    ends_dot sides.to_right sides.right
+statement_ends file (statement.Goal i) =
+    let goal = goal_at file i in
+    ends_dot (goal_front file goal.equation) (method_pieces file goal.method)
 
 -- the pieces of a file before a statement, those of the statement, and those behind it
 pub around : (file : File) (before after : List Statement) (s : Statement) → file.order ≡ before ++ (s ∷ after) →
@@ -153,12 +154,12 @@ statement_of file valid before after s order =
     (all_split (IsStatementOf file) before (s ∷ after) (subst P order all)).1.0
 
 -- the tokens of a statement, from behind the statement before it
-pub statement_tokens : CutFromAnywhere → (file : File) → IsValid file → IsReadToday file →
+pub statement_tokens : CutFromAnywhere → (file : File) → IsValid file →
     (before after : List Statement) (s : Statement) → file.order ≡ before ++ (s ∷ after) →
     let at = width (file_pieces file before) in
     let pieces = (laid_statement file s).pieces in
     TokensTo (text_of file []) (at - 1) (tokens_of at pieces) (at + width pieces)
-statement_tokens law file valid today before after s order =
+statement_tokens law file valid before after s order =
     let text = text_of file [] in
     let at = width (file_pieces file before) in
     let pieces = (laid_statement file s).pieces in
@@ -166,55 +167,55 @@ statement_tokens law file valid today before after s order =
     let whole = around file before after s order in
     let P : List Piece → Type 0 = λ ps. AllStand ps [] in
     let tokens = tokens_behind law text (file_pieces file before) (pieces ++ rest) (lines_end file before)
-    (sym (spelled_file file valid today) ∙ ap spell whole) (subst P whole (stand_file file valid today)) in
-    let (front, e) = statement_ends file s today (statement_of file valid before after s order) in
+    (sym (spelled_file file valid) ∙ ap spell whole) (subst P whole (stand_file file valid)) in
+    let (front, e) = statement_ends file s in
     let Q : List Piece → Type 0 = λ ps. TokensFrom text (at - 1) (tokens_of at ps) in
     let R : List Piece → Type 0 = λ ps. TokensTo text (at - 1) (tokens_of at ps) (at + width ps) in
     let split : pieces ++ rest ≡ front ++ (dot ++ rest) = ap (λ ps. ps ++ rest) e ∙ append_assoc front dot rest in
     subst R (sym e) (tokens_to text (at - 1) at front rest _ _ (subst Q split tokens))
 
 -- behind the last statement the text ends
-pub text_ends : CutFromAnywhere → (file : File) → IsValid file → IsReadToday file →
+pub text_ends : CutFromAnywhere → (file : File) → IsValid file →
     IsNext (text_of file []) (width (file_pieces file file.order) - 1) (Ok (record {
       kind = kinds.End;
       start = length (text_of file []);
       stop = length (text_of file []);
     }))
-text_ends law file valid today =
+text_ends law file valid =
     let pieces = file_pieces file file.order in
     let P : List Piece → Type 0 = λ ps. AllStand ps [] in
     tokens_behind law (text_of file []) pieces [] (lines_end file file.order)
-    (sym (spelled_file file valid today) ∙ ap spell (sym (append-nil pieces)))
-    (subst P (sym (append-nil pieces)) (stand_file file valid today))
+    (sym (spelled_file file valid) ∙ ap spell (sym (append-nil pieces)))
+    (subst P (sym (append-nil pieces)) (stand_file file valid))
 
 -- ---- bytes
 
 -- the text is as long as its pieces are wide
-pub text_width : (file : File) → IsValid file → IsReadToday file →
+pub text_width : (file : File) → IsValid file →
     length (text_of file []) ≡ width (file_pieces file file.order)
-text_width file valid today =
-    ap length (sym (spelled_file file valid today)) ∙ spelled_width (file_pieces file file.order)
+text_width file valid =
+    ap length (sym (spelled_file file valid)) ∙ spelled_width (file_pieces file file.order)
 
 -- a piece of the file stands in the text at its place
-pub piece_bytes : (file : File) → IsValid file → IsReadToday file → (front back : List Piece) (piece : Piece) →
+pub piece_bytes : (file : File) → IsValid file → (front back : List Piece) (piece : Piece) →
     file_pieces file file.order ≡ front ++ (piece ∷ back) →
     take (length (bytes_of piece)) (drop (width front) (text_of file [])) ≡ bytes_of piece
-piece_bytes file valid today front back piece e =
+piece_bytes file valid front back piece e =
     ap (λ text. take (length (bytes_of piece)) (drop (width front) text))
-    (sym (spelled_file file valid today) ∙ ap spell e)
+    (sym (spelled_file file valid) ∙ ap spell e)
     ∙ piece_there front back piece
 
 -- so does a piece of a statement
-pub statement_piece_bytes : (file : File) → IsValid file → IsReadToday file → (before after : List Statement)
+pub statement_piece_bytes : (file : File) → IsValid file → (before after : List Statement)
     (s : Statement) → file.order ≡ before ++ (s ∷ after) → (front back : List Piece) (piece : Piece) →
     (laid_statement file s).pieces ≡ front ++ (piece ∷ back) →
     take (length (bytes_of piece)) (drop (width (file_pieces file before) + width front) (text_of file []))
     ≡ bytes_of piece
-statement_piece_bytes file valid today before after s order front back piece e =
+statement_piece_bytes file valid before after s order front back piece e =
     let rest = line_feed ∷ file_pieces file after in
     let lines = file_pieces file before in
     let whole : file_pieces file file.order ≡ (lines ++ front) ++ (piece ∷ (back ++ rest)) =
     around file before after s order ∙ ap (λ ps. lines ++ ps) (ap (λ ps. ps ++ rest) e
     ∙ append_assoc front (piece ∷ back) rest) ∙ sym (append_assoc lines front (piece ∷ (back ++ rest))) in
     ap (λ n. take (length (bytes_of piece)) (drop n (text_of file []))) (sym (width_append lines front))
-    ∙ piece_bytes file valid today (lines ++ front) (back ++ rest) piece whole
+    ∙ piece_bytes file valid (lines ++ front) (back ++ rest) piece whole

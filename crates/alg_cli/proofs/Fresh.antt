@@ -6,7 +6,7 @@ use Rattle.std.proofs.lemmas.List.{length-map}
 use Rattle.alg_terms.specs.declared.declarations.VarDecl.{VarDecl}
 use Rattle.alg_terms.specs.declared.file.File.{File}
 use Rattle.alg_terms.specs.declared.file.Statement.{Statement}
-use Rattle.alg_terms.specs.Members.{sort_at, hom_at, var_at, no_sort, no_hom, no_var}
+use Rattle.alg_terms.specs.Members.{sort_at, hom_at, var_at, hyp_at, no_sort, no_hom, no_var, no_hyp}
 use Rattle.alg_terms.specs.Valid.{IsValid, names_of}
 use Rattle.alg_typing.proofs.DeclaredNames.{at_place, name_at, apart_at}
 use Rattle.alg_typing.proofs.FreshNames.{Name, IsNew, AreDistinct, distinct_from_pairs, distinct_left, distinct_right, distinct_apart, recursion_append, recursion_left, recursion_right}
@@ -64,12 +64,16 @@ module _ (file : File) (valid : IsValid file) (before : List Statement) where
   -- what is new to the first items of each list is new to the front
   new_to_front : (name : Name) → IsNew name (map (λ sort. sort.name) (take (sorts_in before) file.sorts)) →
       IsNew name (map (λ hom. hom.name) (take (homs_in before) file.homs)) →
-      IsNew name (map (λ var. var.name) (take (vars_in before) file.vars)) → IsNew name hyps →
+      IsNew name (map (λ var. var.name) (take (vars_in before) file.vars)) →
+      IsNew name (map (λ hyp. hyp.name) (take (hyps_in before) file.hyps)) →
       IsNew name (names_of (front file before))
   new_to_front name s h v y =
       let P : Name → Type 0 = λ other. name ≢ other in
-      recursion_append P _ _ (recursion_append P _ _ (recursion_append P _ _ s h) v)
-      (new_take (λ hyp. hyp.name) name file.hyps (hyps_in before) y)
+      recursion_append P _ _ (recursion_append P _ _ (recursion_append P _ _ s h) v) y
+
+  -- what is new to all hypotheses is new to the first ones
+  first_hyps : (name : Name) → IsNew name hyps → IsNew name (map (λ hyp. hyp.name) (take (hyps_in before) file.hyps))
+  first_hyps name y = new_take (λ hyp. hyp.name) name file.hyps (hyps_in before) y
 
   pub fresh_sort : (k : ℕ) → k ≡ sorts_in before → k < length file.sorts →
       IsNew (sort_at file k).name (names_of (front file before))
@@ -87,7 +91,7 @@ module _ (file : File) (valid : IsValid file) (before : List Statement) where
       (recursion_left (λ n. IsNew n hyps) (sorts ++ homs) vars (distinct_apart ((sorts ++ homs) ++ vars) hyps all))) in
       new_to_front name (subst (λ n. IsNew name (map (λ sort. sort.name) (take n file.sorts))) here own)
       (new_take (λ hom. hom.name) name file.homs (homs_in before) to_homs)
-      (new_take (λ var. var.name) name file.vars (vars_in before) to_vars) to_hyps
+      (new_take (λ var. var.name) name file.vars (vars_in before) to_vars) (first_hyps name to_hyps)
 
   pub fresh_hom : (k : ℕ) → k ≡ homs_in before → k < length file.homs →
       IsNew (hom_at file k).name (names_of (front file before))
@@ -106,7 +110,7 @@ module _ (file : File) (valid : IsValid file) (before : List Statement) where
       (recursion_left (λ n. IsNew n hyps) (sorts ++ homs) vars (distinct_apart ((sorts ++ homs) ++ vars) hyps all))) in
       new_to_front name (new_take (λ sort. sort.name) name file.sorts (sorts_in before) to_sorts)
       (subst (λ n. IsNew name (map (λ hom. hom.name) (take n file.homs))) here own)
-      (new_take (λ var. var.name) name file.vars (vars_in before) to_vars) to_hyps
+      (new_take (λ var. var.name) name file.vars (vars_in before) to_vars) (first_hyps name to_hyps)
 
   -- a variable from the next one on is new to the front, and to the variables before it
   pub fresh_var : (k : ℕ) → vars_in before ≤ k → k < length file.vars →
@@ -128,6 +132,22 @@ module _ (file : File) (valid : IsValid file) (before : List Statement) where
         new_to_front name (new_take (λ sort. sort.name) name file.sorts (sorts_in before)
             (recursion_left P sorts homs to_both))
             (new_take (λ hom. hom.name) name file.homs (homs_in before) (recursion_right P sorts homs to_both))
-            (new_fewer name file.vars (vars_in before) k here own) to_hyps,
+            (new_fewer name file.vars (vars_in before) k here own) (first_hyps name to_hyps),
         own,
       )
+
+  pub fresh_hyp : (k : ℕ) → k ≡ hyps_in before → k < length file.hyps →
+      IsNew (hyp_at file k).name (names_of (front file before))
+  fresh_hyp k here low =
+      let name = (hyp_at file k).name in
+      let there = name_at (λ hyp. hyp.name) file.hyps k no_hyp low in
+      let inside : k < length hyps = omega (arith, length-map file.hyps (λ hyp. hyp.name)) in
+      let own = new_prefix (λ hyp. hyp.name) file.hyps k no_hyp (distinct_right ((sorts ++ homs) ++ vars) hyps all) low in
+      let P : Name → Type 0 = λ other. name ≢ other in
+      let to_three = subst (λ n. IsNew n ((sorts ++ homs) ++ vars)) there
+      (apart_at ((sorts ++ homs) ++ vars) hyps k [] (distinct_apart ((sorts ++ homs) ++ vars) hyps all) inside) in
+      let to_two = recursion_left P (sorts ++ homs) vars to_three in
+      new_to_front name (new_take (λ sort. sort.name) name file.sorts (sorts_in before) (recursion_left P sorts homs to_two))
+      (new_take (λ hom. hom.name) name file.homs (homs_in before) (recursion_right P sorts homs to_two))
+      (new_take (λ var. var.name) name file.vars (vars_in before) (recursion_right P (sorts ++ homs) vars to_three))
+      (subst (λ n. IsNew name (map (λ hyp. hyp.name) (take n file.hyps))) here own)

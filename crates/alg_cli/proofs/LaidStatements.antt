@@ -9,18 +9,22 @@ use Rattle.alg_terms.specs.declared.file.File.{File}
 use Rattle.alg_terms.specs.declared.file.Statement.{Statement}
 use Rattle.alg_terms.specs.declared.file.Statement.TheVariants as statement
 use Rattle.alg_terms.specs.declared.goals.Equation.{Equation}
-use Rattle.alg_terms.specs.Members.{sort_at, hom_at, goal_at, sort_of_var}
+use Rattle.alg_terms.specs.declared.goals.Goal.{Goal}
+use Rattle.alg_terms.specs.declared.goals.Hyp.{Hyp}
+use Rattle.alg_terms.specs.Members.{sort_at, hom_at, hyp_at, goal_at, sort_of_var}
 use Rattle.alg_terms.specs.Order.{numbers_from}
+use Rattle.alg_tokens.specs.declared.token.Sign.{Sign}
 use Rattle.alg_tokens.specs.declared.token.Sign.TheVariants as signs
 use Rattle.alg_tokens.specs.declared.token.Word.{Word}
 use Rattle.alg_tokens.specs.declared.token.Word.TheVariants as words
 use Rattle.alg_tokens.specs.Laws.{width}
 use Rattle.alg_tokens.specs.Pieces.{Piece}
+use Rattle.alg_reader.specs.declared.raw.RawEquation.{RawEquation}
 use Rattle.alg_reader.specs.declared.raw.RawKind.{RawKind}
 use Rattle.alg_reader.specs.declared.raw.RawKind.TheVariants as raws
-use Rattle.alg_reader.specs.declared.raw.RawMethod.TheVariants as methods
 use Rattle.alg_reader.specs.declared.raw.Span.{Span}
 use Rattle.alg_printer.specs.Names.{sort_name, var_name}
+use Rattle.alg_cli.proofs.LaidMethods.{method_pieces, method_raw}
 use Rattle.alg_cli.proofs.LaidTerms.{space, line_feed, sign, word, name, numeral, span, laid}
 
 -- a statement in pieces: those up to its `.`, and what it says by the place where they begin
@@ -81,31 +85,69 @@ laid_vars file first count =
       raw = λ at. raws.Vars (name_spans (at + 3) names) (behind front at sort);
     }
 
-abbrev pub laid_goal : File → Equation → LaidStatement
-laid_goal file e =
-    let front = word words.Goal ∷ space ∷ [] in
+-- how the sides of an equation compare
+abbrev pub relation_sign : Bool → Sign
+relation_sign true = signs.NotEqual
+relation_sign false = signs.Equal
+
+-- the two sides of an equation behind other pieces: all pieces up to the relation, all up to the right side, those of
+-- the right side, and the raw equation
+pub record LaidSides : Type 0 where
+  pub to_relation : List Piece
+  pub to_right : List Piece
+  pub right : List Piece
+  pub raw : ℕ → RawEquation
+
+abbrev pub laid_sides : File → List Piece → Bool → Equation → LaidSides
+laid_sides file front nonzero e =
     let left = laid file e.left in
-    let equal = front ++ (left.pieces ++ (space ∷ [])) in
-    let middle = equal ++ (sign signs.Equal ∷ space ∷ []) in
     let right = laid file e.right in
-    let by = middle ++ (right.pieces ++ (space ∷ word words.By ∷ space ∷ [])) in
+    let to_relation = front ++ (left.pieces ++ (space ∷ [])) in
+    let to_right = to_relation ++ (sign (relation_sign nonzero) ∷ space ∷ []) in
     record {
-      pieces = by ++ (word words.Ring ∷ dot);
-      raw = λ at. raws.Goal (record {
+      to_relation = to_relation;
+      to_right = to_right;
+      right = right.pieces;
+      raw = λ at. record {
         left = left.raw (at + width front);
-        relation = at + width equal;
-        nonzero = false;
-        right = right.raw (at + width middle);
-      }) methods.Ring (at + width by);
+        relation = at + width to_relation;
+        nonzero = nonzero;
+        right = right.raw (at + width to_right);
+      };
     }
 
--- a statement of the file; a hypothesis can't be read yet
+abbrev pub laid_hyp : File → Hyp → LaidStatement
+laid_hyp file hyp =
+    let front = word words.Hyp ∷ space ∷ [] in
+    let colon = front ++ (name hyp.name ∷ space ∷ sign signs.Colon ∷ space ∷ []) in
+    let sides = laid_sides file colon hyp.nonzero hyp.equation in
+    record {
+      pieces = sides.to_right ++ (sides.right ++ dot);
+      raw = λ at. raws.Hyp (behind front at hyp.name) (sides.raw at);
+    }
+
+-- the pieces of a goal up to its method
+abbrev pub goal_front : File → Equation → List Piece
+goal_front file e =
+    let sides = laid_sides file (word words.Goal ∷ space ∷ []) false e in
+    sides.to_right ++ (sides.right ++ (space ∷ word words.By ∷ space ∷ []))
+
+abbrev pub laid_goal : File → Goal → LaidStatement
+laid_goal file goal =
+    let sides = laid_sides file (word words.Goal ∷ space ∷ []) false goal.equation in
+    let by = goal_front file goal.equation in
+    record {
+      pieces = by ++ (method_pieces file goal.method ++ dot);
+      raw = λ at. raws.Goal (sides.raw at) (method_raw file (at + width by) goal.method) (at + width by);
+    }
+
+-- a statement of the file
 abbrev pub laid_statement : File → Statement → LaidStatement
 laid_statement file (statement.Sort s) = laid_sort (sort_at file s)
 laid_statement file (statement.Hom f) = laid_hom file (hom_at file f)
 laid_statement file (statement.Vars first count) = laid_vars file first count
-laid_statement file (statement.Hyp h) = record { pieces = []; raw = λ at. raws.End }
-laid_statement file (statement.Goal i) = laid_goal file (goal_at file i).equation
+laid_statement file (statement.Hyp h) = laid_hyp file (hyp_at file h)
+laid_statement file (statement.Goal i) = laid_goal file (goal_at file i)
 
 -- all statements of the file, each on a line of its own
 abbrev pub file_pieces : File → List Statement → List Piece

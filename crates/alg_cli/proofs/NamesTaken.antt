@@ -1,11 +1,13 @@
--- Names that a file takes: new ones that a statement declares, and those of sorts that it uses.
-use Rattle.std.proofs.Common.{◌≡◌, ◌<◌, ◌≤◌, ℕ, ◌||◌, Bool, true, false, List, [], ◌∷◌, ◌++◌, ◌⊎◌, inl, inr, length, map, Some, is_some, refl, ap, ◌∙◌, subst, arith}
-use Rattle.std.specs.Prelude.{Contains, bytes_eq}
+-- Names that a file takes: new ones that a statement declares, and those of sorts and hypotheses that it uses.
+use Rattle.std.proofs.Common.{◌≡◌, ◌≢◌, ◌<◌, ◌≤◌, ℕ, ◌||◌, Bool, true, false, List, [], ◌∷◌, ◌++◌, ◌⊎◌, inl, inr, length, map, Option, None, Some, is_some, refl, ap, ◌∙◌, subst, arith}
+use Rattle.std.specs.Prelude.{Contains, bytes_eq, position, slice_index_or}
 use Rattle.std.specs.List.{list_any, flat_map}
 use Rattle.std.specs.Option.{option_map_or}
+use Rattle.std.proofs.lemmas.List.{length-map}
 use Rattle.std.proofs.lemmas.Slice.Eq.{bytes_eq-Decides}
 use Rattle.alg_terms.specs.declared.file.File.{File}
 use Rattle.alg_terms.specs.declared.file.Statement.{Statement}
+use Rattle.alg_terms.specs.Members.{hyp_at, no_hyp}
 use Rattle.alg_terms.specs.Order.{declared_by}
 use Rattle.alg_terms.specs.Valid.{IsValid, names_of}
 use Rattle.alg_reader.specs.declared.raw.Span.{Span}
@@ -13,10 +15,10 @@ use Rattle.alg_reader.specs.WellRead.{bytes_at}
 use Rattle.alg_typing.specs.declared.declaration.Declaration.TheVariants as declaration
 use Rattle.alg_typing.specs.Faults.{fault_if}
 use Rattle.alg_typing.specs.NameFaults.{new_name, new_names, used_name, misuse}
-use Rattle.alg_typing.specs.Names.{declared_as, is_sort, number_of}
+use Rattle.alg_typing.specs.Names.{declared_as, is_sort, is_hyp, number_of}
 use Rattle.alg_typing.specs.Resolved.{number_at}
-use Rattle.alg_typing.proofs.DeclaredNames.{declared_none, declared_sort}
-use Rattle.alg_typing.proofs.FreshNames.{Name, IsNew, AreDistinct}
+use Rattle.alg_typing.proofs.DeclaredNames.{declaration_of, name_at, found_at, not_found, apart_at, declared_none, declared_sort}
+use Rattle.alg_typing.proofs.FreshNames.{Name, IsNew, AreDistinct, distinct_right, distinct_apart, recursion_left, recursion_right}
 use Rattle.alg_typing.proofs.Growing.{Grows}
 use Rattle.alg_printer.specs.Names.{sort_name}
 use Rattle.alg_cli.proofs.Fronts.{front, sorts_in, next}
@@ -68,6 +70,41 @@ module _ (g : File) (text : List ℕ) where
       let found : declared_as g (bytes_at text name) ≡ Some (declaration.Sort s) =
       ap (declared_as g) (same ∙ ap (λ sort. sort.name) (grows.sorts s low)) ∙ declared_sort g distinct s low in
       (ap (λ o. option_map_or number_of o 0) found, ap (misuse g text is_sort name.start) found)
+
+-- in a file with distinct names that of a hypothesis is the hypothesis's
+pub declared_hyp : (g : File) → AreDistinct (names_of g) → (h : ℕ) → h < length g.hyps →
+    declared_as g (hyp_at g h).name ≡ Some (declaration.Hyp h)
+declared_hyp g distinct h low =
+    let sorts : List Name = map (λ sort. sort.name) g.sorts in
+    let homs : List Name = map (λ hom. hom.name) g.homs in
+    let vars : List Name = map (λ var. var.name) g.vars in
+    let hyps : List Name = map (λ hyp. hyp.name) g.hyps in
+    let three : List Name = (sorts ++ homs) ++ vars in
+    let name = (hyp_at g h).name in
+    let here : slice_index_or hyps h [] ≡ name = name_at (λ hyp. hyp.name) g.hyps h no_hyp low in
+    let inside : h < length hyps = omega (arith, length-map g.hyps (λ hyp. hyp.name)) in
+    let P : Name → Type 0 = λ other. name ≢ other in
+    let new : IsNew name three =
+    subst (λ n. IsNew n three) here (apart_at three hyps h [] (distinct_apart three hyps distinct) inside) in
+    let two : IsNew name (sorts ++ homs) = recursion_left P (sorts ++ homs) vars new in
+    let there = found_at hyps h [] (distinct_right three hyps distinct) inside in
+    let place = subst (λ n. position (bytes_eq n) hyps ≡ Some h) here there in
+    let no_sort = not_found name sorts (recursion_left P sorts homs two) in
+    let no_hom = not_found name homs (recursion_right P sorts homs two) in
+    let no_var = not_found name vars (recursion_right P (sorts ++ homs) vars new) in
+    let among : List Name → Option ℕ = position (bytes_eq name) in
+    ap (λ o. declaration_of o (among homs) (among vars) (among hyps)) no_sort
+    ∙ ap (λ o. declaration_of None o (among vars) (among hyps)) no_hom
+    ∙ ap (λ o. declaration_of None None o (among hyps)) no_var ∙ ap (declaration_of None None None) place
+
+module _ (file g : File) (text : List ℕ) (distinct : AreDistinct (names_of g)) (grows : Grows g file) where
+  -- the name of a hypothesis of a longer file is that of its number, and has no fault where a hypothesis is wanted
+  pub hyp_used : (h : ℕ) (name : Span) → h < length g.hyps → bytes_at text name ≡ (hyp_at file h).name →
+      (number_at g text name ≡ h) × (used_name g text is_hyp name ≡ [])
+  hyp_used h name low same =
+      let found : declared_as g (bytes_at text name) ≡ Some (declaration.Hyp h) =
+      ap (declared_as g) (same ∙ ap (λ hyp. hyp.name) (grows.hyps h low)) ∙ declared_hyp g distinct h low in
+      (ap (λ o. option_map_or number_of o 0) found, ap (misuse g text is_hyp name.start) found)
 
 -- a sort that the statements before declare is one of the front
 pub sort_before : (file : File) → IsValid file → (before after : List Statement) (s : Statement) →

@@ -41,12 +41,13 @@ stays_open depth byte h =
     rw (test_left (byte == 40) (byte == 41) h, test_right (byte == 40) (byte == 41) h) refl
 
 -- as many are open at once as are at first
-opens_first : (depth : ℕ) (text : List ℕ) → depth ≤ most_open depth text
+pub opens_first : (depth : ℕ) (text : List ℕ) → depth ≤ most_open depth text
 opens_first depth [] = omega arith
 opens_first depth (byte ∷ text) = omega arith
 
 -- what follows other bytes
-past_plain : (depth : ℕ) (bytes rest : List ℕ) → NoParens bytes → most_open depth rest ≤ most_open depth (bytes ++ rest)
+pub past_plain : (depth : ℕ) (bytes rest : List ℕ) → NoParens bytes →
+    most_open depth rest ≤ most_open depth (bytes ++ rest)
 past_plain depth [] rest plain = omega arith
 past_plain depth (byte ∷ bytes) rest plain =
     let same = ap (λ d. most_open d (bytes ++ rest)) (stays_open depth byte plain.0) in
@@ -81,7 +82,7 @@ past_sign depth s rest = elim s as (λ s. most_open (reader.open_with depth (kin
       | signs.Caret ↦ past_plain depth (codes "^") rest (no_parens (codes "^") refl)
     ]
 
-past_lexeme : (depth : ℕ) (kind : TokenKind) (bytes rest : List ℕ) → IsEven kind bytes →
+pub past_lexeme : (depth : ℕ) (kind : TokenKind) (bytes rest : List ℕ) → IsEven kind bytes →
     most_open (reader.open_with depth kind) rest ≤ most_open depth (bytes ++ rest)
 past_lexeme depth (kinds.Sign s) bytes rest even =
     subst (λ bs. most_open (reader.open_with depth (kinds.Sign s)) rest ≤ most_open depth (bs ++ rest)) (sym even)

@@ -1,5 +1,5 @@
--- Reading goes past the pieces of each statement that can be read.
-use Rattle.std.proofs.Common.{◌≡◌, ℕ, Bool, true, false, List, [], ◌∷◌, ◌++◌, map, Option, None, Some, codes, refl, sym, ap, ◌∙◌, subst, append_assoc}
+-- Reading goes past the pieces of each statement that can be read today.
+use Rattle.std.proofs.Common.{◌≡◌, ℕ, Bool, true, false, List, [], ◌∷◌, ◌++◌, map, length, Option, None, Some, codes, refl, sym, ap, ◌∙◌, subst, arith, append_assoc}
 use Rattle.std.specs.List.{AllByRecursion}
 use Rattle.alg_terms.specs.declared.declarations.HomDecl.{HomDecl}
 use Rattle.alg_terms.specs.declared.declarations.Kind.{Kind}
@@ -8,7 +8,9 @@ use Rattle.alg_terms.specs.declared.file.File.{File}
 use Rattle.alg_terms.specs.declared.file.Statement.{Statement}
 use Rattle.alg_terms.specs.declared.file.Statement.TheVariants as statement
 use Rattle.alg_terms.specs.declared.goals.Equation.{Equation}
-use Rattle.alg_terms.specs.Members.{sort_of_var, sort_at, hom_at, goal_at}
+use Rattle.alg_terms.specs.declared.goals.Goal.{Goal}
+use Rattle.alg_terms.specs.declared.goals.Method.TheVariants.{ByRing}
+use Rattle.alg_terms.specs.Members.{sort_of_var, sort_at, hom_at, goal_at, no_goal}
 use Rattle.alg_terms.specs.Order.{numbers_from}
 use Rattle.alg_tokens.specs.declared.token.Sign.TheVariants as signs
 use Rattle.alg_tokens.specs.declared.token.Word.TheVariants as words
@@ -17,8 +19,11 @@ use Rattle.alg_tokens.specs.declared.token.TokenKind.TheVariants as kinds
 use Rattle.alg_tokens.specs.Pieces.{Piece, Blank, Lexeme}
 use Rattle.alg_reader.specs.Tokens.{bar}
 use Rattle.alg_printer.specs.Names.{sort_name, var_name}
+use Rattle.alg_printer.specs.Text.{IsStatementOf}
+use Rattle.alg_cli.specs.ReadingBack.{IsReadToday}
+use Rattle.alg_cli.proofs.LaidMethods.{method_pieces}
 use Rattle.alg_cli.proofs.LaidTerms.{laid, space, sign, word, name}
-use Rattle.alg_cli.proofs.LaidStatements.{laid_sort, laid_hom, laid_vars, laid_goal, laid_statement, name_pieces, dot}
+use Rattle.alg_cli.proofs.LaidStatements.{laid_sort, laid_hom, laid_vars, goal_front, laid_goal, laid_statement, name_pieces, dot}
 use Rattle.alg_cli.proofs.OpenBytes.{NoParens, no_parens, Passes}
 use Rattle.alg_cli.proofs.PlainNames.{HasPlainNames, decimal_plain}
 use Rattle.alg_cli.proofs.PlainPieces.{Wordless, wordless_append, space_plain, term_wordless}
@@ -159,9 +164,10 @@ goal_fronts first second middle r end last =
     ap (λ ps. first ∷ second ∷ ps) (sym (append_assoc (middle ++ r) end last)
     ∙ ap (λ ps. ps ++ last) (append_assoc middle r end))
 
--- goals
-goal_passes : (file : File) → HasPlainNames file → (e : Equation) → Passes None (laid_goal file e).pieces
-goal_passes file plain e =
+-- goals by ring
+ring_passes : (file : File) → HasPlainNames file → (e : Equation) →
+    Passes None (goal_front file e ++ (word words.Ring ∷ dot))
+ring_passes file plain e =
     let l = (laid file e.left).pieces in
     let r = (laid file e.right).pieces in
     let equal = l ++ (space ∷ []) in
@@ -188,12 +194,20 @@ goal_passes file plain e =
       ),
     )
 
--- of each statement but hypotheses
-pub statement_passes : (file : File) → HasPlainNames file → (s : Statement) → Passes None (laid_statement file s).pieces
-statement_passes file plain (statement.Sort s) =
+goal_passes : (file : File) → HasPlainNames file → (goal : Goal) → goal.method ≡ ByRing →
+    Passes None (laid_goal file goal).pieces
+goal_passes file plain goal by_ring =
+    subst (λ m. Passes None (goal_front file goal.equation ++ (method_pieces file m ++ dot))) (sym by_ring)
+    (ring_passes file plain goal.equation)
+
+-- of each statement that can be read today
+pub statement_passes : (file : File) → HasPlainNames file → IsReadToday file → (s : Statement) →
+    IsStatementOf file s → Passes None (laid_statement file s).pieces
+statement_passes file plain today (statement.Sort s) is =
     sort_passes (sort_at file s).kind (sort_at file s).name (sort_at file s).char0 (plain.sorts s)
-statement_passes file plain (statement.Hom f) =
+statement_passes file plain today (statement.Hom f) is =
     hom_passes file (hom_at file f) (plain.homs f) (plain.sorts (hom_at file f).from) (plain.sorts (hom_at file f).to)
-statement_passes file plain (statement.Vars first count) = vars_passes file plain first count
-statement_passes file plain (statement.Hyp h) = tt
-statement_passes file plain (statement.Goal i) = goal_passes file plain (goal_at file i).equation
+statement_passes file plain today (statement.Vars first count) is = vars_passes file plain first count
+statement_passes file plain today (statement.Hyp h) is = let none = ap length today.hyps in absurd (omega arith)
+statement_passes file plain today (statement.Goal i) is =
+    goal_passes file plain (goal_at file i) (today.goals i no_goal is)

@@ -6,11 +6,11 @@ use Rattle.alg_terms.specs.declared.file.File.{File}
 use Rattle.alg_terms.specs.declared.term.Term.{Term, more_of-Term, Var, Int, Neg', Add', Sub', Mul', Div', Pow', Hom'}
 use Rattle.alg_terms.specs.Nodes.{fold_term, EachNode}
 use Rattle.alg_terms.specs.Occurring.{node_vars, node_homs}
-use Rattle.alg_terms.specs.TermRules.{IsTerm, IsInRange, HasAgreeingParts, HasFittingArgument, HasNoQuotient}
+use Rattle.alg_terms.specs.TermRules.{IsTerm, IsInRange, HasAgreeingParts, HasFittingArgument}
 use Rattle.alg_typing.proofs.Growing.{Grows, source_same, agree_same}
 use Rattle.alg_typing.proofs.GrowingTerms.{own_same}
 use Rattle.alg_typing.proofs.Ordering.{all_left, all_right}
-use Rattle.alg_cli.proofs.SortsBack.{Rules}
+use Rattle.alg_cli.proofs.SortRules.{Rules}
 
 module _ (g : File) where
   abbrev low_var : ℕ → Type 0
@@ -26,20 +26,33 @@ module _ (g : File) where
   in_range (Var k) v h = All-head low_var k [] v
   in_range (Int n) v h = tt
   in_range (Neg' _ (more_of-Term t _)) v h = (tt, in_range t v h)
-  in_range (Add' _ (more_of-Term t _) _ (more_of-Term u _)) v h =
-      (tt, in_range t (all_left low_var _ _ v) (all_left low_hom _ _ h), in_range u (all_right low_var _ _ v) (all_right low_hom _ _ h))
-  in_range (Sub' _ (more_of-Term t _) _ (more_of-Term u _)) v h =
-      (tt, in_range t (all_left low_var _ _ v) (all_left low_hom _ _ h), in_range u (all_right low_var _ _ v) (all_right low_hom _ _ h))
-  in_range (Mul' _ (more_of-Term t _) _ (more_of-Term u _)) v h =
-      (tt, in_range t (all_left low_var _ _ v) (all_left low_hom _ _ h), in_range u (all_right low_var _ _ v) (all_right low_hom _ _ h))
-  in_range (Div' _ (more_of-Term t _) _ (more_of-Term u _)) v h =
-      (tt, in_range t (all_left low_var _ _ v) (all_left low_hom _ _ h), in_range u (all_right low_var _ _ v) (all_right low_hom _ _ h))
+  in_range (Add' _ (more_of-Term t _) _ (more_of-Term u _)) v h = (
+    tt,
+    in_range t (all_left low_var _ _ v) (all_left low_hom _ _ h),
+    in_range u (all_right low_var _ _ v) (all_right low_hom _ _ h),
+  )
+  in_range (Sub' _ (more_of-Term t _) _ (more_of-Term u _)) v h = (
+    tt,
+    in_range t (all_left low_var _ _ v) (all_left low_hom _ _ h),
+    in_range u (all_right low_var _ _ v) (all_right low_hom _ _ h),
+  )
+  in_range (Mul' _ (more_of-Term t _) _ (more_of-Term u _)) v h = (
+    tt,
+    in_range t (all_left low_var _ _ v) (all_left low_hom _ _ h),
+    in_range u (all_right low_var _ _ v) (all_right low_hom _ _ h),
+  )
+  in_range (Div' _ (more_of-Term t _) _ (more_of-Term u _)) v h = (
+    tt,
+    in_range t (all_left low_var _ _ v) (all_left low_hom _ _ h),
+    in_range u (all_right low_var _ _ v) (all_right low_hom _ _ h),
+  )
   in_range (Pow' _ (more_of-Term t _) n) v h = (tt, in_range t v h)
   in_range (Hom' f _ (more_of-Term t _)) v h =
       (All-head low_hom f (fold_term node_homs t) h, in_range t v (All-tail low_hom f (fold_term node_homs t) h))
 
 module _ (g file : File) (grows : Grows g file) where
-  parts_shrunk : (t : Term) → EachNode (IsInRange g) t → EachNode (HasAgreeingParts file) t → EachNode (HasAgreeingParts g) t
+  parts_shrunk : (t : Term) → EachNode (IsInRange g) t → EachNode (HasAgreeingParts file) t →
+      EachNode (HasAgreeingParts g) t
   unfolding EachNode
   parts_shrunk (Var k) r h = tt
   parts_shrunk (Int n) r h = tt
@@ -87,12 +100,11 @@ module _ (g file : File) (grows : Grows g file) where
     arguments_shrunk t r.1 h.1,
   )
 
-  -- a term of the file without quotients keeps the rules in the front
-  pub rules : (t : Term) → EachNode (IsInRange g) t → IsTerm file t → HasNoQuotient t → Rules g t
-  rules t range h plain = record {
+  -- a term of the file keeps the rules of terms in the front
+  pub rules : (t : Term) → EachNode (IsInRange g) t → IsTerm file t → Rules g t
+  rules t range h = record {
     range = range;
     exponents = h.exponents;
     parts = parts_shrunk t range h.parts;
     arguments = arguments_shrunk t range h.arguments;
-    plain = plain;
   }

@@ -1,15 +1,21 @@
--- The raw term of a canonical text has no faults of sorts where the term keeps the rules of a term without quotients.
+-- The raw term of a canonical text has no faults of sorts where the term keeps the rules of a term and divides only
+-- where its goal may.
 use Rattle.std.proofs.Common.{◌≡◌, ℕ, ℤ, ◌+◌, Bool, true, false, List, [], ◌∷◌, ◌++◌, length, Option, None, Some, refl, sym, ap, ◌∙◌, subst, arith}
-use Rattle.std.specs.Prelude.{nat_lt, ◌&&◌}
+use Rattle.std.specs.Prelude.{All, nat_lt, not, ◌&&◌, ◌||◌}
 use Rattle.std.proofs.lemmas.Bool.Decides.{nat_tests}
+use Rattle.std.proofs.lemmas.List.Elements.{All-head, All-tail}
+use Rattle.alg_terms.specs.declared.declarations.Kind.{Kind}
+use Rattle.alg_terms.specs.declared.declarations.Kind.TheVariants.{Ring, Domain, Field}
 use Rattle.alg_terms.specs.declared.file.File.{File}
 use Rattle.alg_terms.specs.declared.limits.TheConstants.{MAX_EXPONENT}
 use Rattle.alg_terms.specs.declared.term.Term.{Term}
 use Rattle.alg_terms.specs.declared.term.Term.TheVariants.{Var, Int, Neg, Add, Sub, Mul, Div, Pow, Hom}
+use Rattle.alg_terms.specs.declared.term.Term.TheOpen.{Term-F}
+use Rattle.alg_terms.specs.Kinds.{IsField}
 use Rattle.alg_terms.specs.Members.{kind_of, source_of, target_of}
 use Rattle.alg_terms.specs.Nodes.{fold_term, EachNode}
-use Rattle.alg_terms.specs.Sorts.{own_sort, Agree}
-use Rattle.alg_terms.specs.TermRules.{IsInRange, HasExponent, HasAgreeingParts, HasFittingArgument, IsNoQuotient}
+use Rattle.alg_terms.specs.Sorts.{own_sort, Agree, EachNodeAt}
+use Rattle.alg_terms.specs.TermRules.{IsInRange, HasExponent, HasAgreeingParts, HasFittingArgument, DividesInFields}
 use Rattle.alg_terms.specs.Valid.{names_of}
 use Rattle.alg_tokens.specs.declared.token.Sign.{Sign}
 use Rattle.alg_tokens.specs.declared.token.Sign.TheVariants as signs
@@ -30,6 +36,7 @@ use Rattle.alg_typing.proofs.Resolving.{own_resolved}
 use Rattle.alg_printer.specs.Names.{hom_name}
 use Rattle.alg_cli.proofs.LaidTerms.{Laid, laid, raw_at, spaced, tight, space, sign, numeral, part_pieces, part_raw, in_parentheses, span}
 use Rattle.alg_cli.proofs.Placed.{Placed, placed_left, placed_right, part_as, span_bytes}
+use Rattle.alg_cli.proofs.SortRules.{DividesWhere, Divides, to_fields, field_passes, all_to_fields, none_fails, Rules, neg_rules, pow_rules, hom_rules, add_rules, sub_rules, mul_rules, div_rules}
 use Rattle.alg_cli.proofs.TermsBack.{term_back, hom_used}
 
 -- own sorts that agree don't differ
@@ -43,268 +50,216 @@ pub no_cause : (there : Bool) (code at : ℕ) → there ≡ false → fault_if t
 no_cause true code at h = absurd (cc)
 no_cause false code at h = refl
 
--- the rules of terms that have to do with sorts
-pub record Rules (g : File) (t : Term) : Type 0 where
-  pub range : EachNode (IsInRange g) t
-  pub exponents : EachNode HasExponent t
-  pub parts : EachNode (HasAgreeingParts g) t
-  pub arguments : EachNode (HasFittingArgument g) t
-  pub plain : EachNode IsNoQuotient t
-
-module _ (file g : File) (text : List ℕ) (distinct : AreDistinct (names_of g)) (grows : Grows g file) where
-  -- the raw term resolves to the term, and has no faults at any final sort
-  pub record IsClear (t : Term) (raw : RawTerm) : Type 0 where
+module _ (file g : File) (text : List ℕ) (distinct : AreDistinct (names_of g)) (grows : Grows g file)
+    (may_divide : Bool) where
+  -- the raw term resolves to the term, and has no faults at this final sort below these morphisms
+  pub record IsClear (s : ℕ) (above : List ℕ) (t : Term) (raw : RawTerm) : Type 0 where
     pub back : term_of g text raw ≡ t
-    pub clear : (final : Option ℕ) (in_fields : Bool) → (sorted g text false raw).faults final in_fields ≡ []
+    pub clear : (sorted g text may_divide raw).faults (Some s) (to_fields g above) ≡ []
 
-  abbrev StaysClear : Term → Laid → Type 0
-  StaysClear t l = (at : ℕ) → Placed text at l.pieces → IsClear t (l.raw at)
+  abbrev StaysClear : ℕ → List ℕ → Term → Laid → Type 0
+  StaysClear s above t l = (at : ℕ) → Placed text at l.pieces → IsClear s above t (l.raw at)
 
-  part_clear : (t : Term) (l : Laid) (wanted at : ℕ) → StaysClear t l → Placed text at (part_pieces wanted l) →
-      IsClear t (part_raw wanted l at)
-  part_clear t l wanted at clear placed = part_as text (IsClear t) l wanted at clear placed
+  part_clear : (s : ℕ) (above : List ℕ) (t : Term) (l : Laid) (wanted at : ℕ) → StaysClear s above t l →
+      Placed text at (part_pieces wanted l) → IsClear s above t (part_raw wanted l at)
+  part_clear s above t l wanted at clear placed = part_as text (IsClear s above t) l wanted at clear placed
 
   -- own sorts of raw terms that resolve to terms of sorts that agree don't differ
-  pub own_same : (t : Term) (raw : RawTerm) → term_of g text raw ≡ t → (sorted g text false raw).own ≡ own_sort g t
-  own_same t raw back = own_resolved g text false raw.head raw.node ∙ ap (own_sort g) back
+  pub own_same : (t : Term) (raw : RawTerm) → term_of g text raw ≡ t →
+      (sorted g text may_divide raw).own ≡ own_sort g t
+  own_same t raw back = own_resolved g text may_divide raw.head raw.node ∙ ap (own_sort g) back
 
   sorts_agree : (t u : Term) (l r : RawTerm) → term_of g text l ≡ t → term_of g text r ≡ u →
-      Agree (own_sort g t) (own_sort g u) → differ (sorted g text false l).own (sorted g text false r).own ≡ false
+      Agree (own_sort g t) (own_sort g u) →
+      differ (sorted g text may_divide l).own (sorted g text may_divide r).own ≡ false
   sorts_agree t u l r p q agree =
-      ap (λ s. differ s (sorted g text false r).own) (own_same t l p) ∙ ap (differ (own_sort g t)) (own_same u r q)
-      ∙ never_differ (own_sort g t) (own_sort g u) agree
+      ap (λ s. differ s (sorted g text may_divide r).own) (own_same t l p)
+      ∙ ap (differ (own_sort g t)) (own_same u r q) ∙ never_differ (own_sort g t) (own_sort g u) agree
 
-  -- a node of two parts
-  abbrev IsOperator : (RawTerm → RawTerm → RawNode) → (Term → Term → Term) → Type 0
-  IsOperator node build = (head : ℕ) (l r : RawTerm) →
-      (term_of g text (raw_at head (node l r)) ≡ build (term_of g text l) (term_of g text r))
-      × (sorted g text false (raw_at head (node l r)) ≡ operator head (sorted g text false l) (sorted g text false r))
+  -- an operator has no faults where its parts have none
+  operator_clear : (s : ℕ) (above : List ℕ) (t u : Term) (head : ℕ) (l r : RawTerm) →
+      Agree (own_sort g t) (own_sort g u) → IsClear s above t l → IsClear s above u r →
+      (operator head (sorted g text may_divide l) (sorted g text may_divide r)).faults (Some s) (to_fields g above) ≡ []
+  operator_clear s above t u head l r agree p q =
+      let left = sorted g text may_divide l in
+      let right = sorted g text may_divide r in
+      let here = left.faults (Some s) (to_fields g above) in
+      let there = right.faults (Some s) (to_fields g above) in
+      let own = no_cause (differ left.own right.own) 9 head (sorts_agree t u l r p.back q.back agree) in
+      ap (λ x. (x ++ here) ++ there) own ∙ ap (λ x. x ++ there) p.clear ∙ q.clear
 
-  two_clear : (node : RawTerm → RawTerm → RawNode) (build : Term → Term → Term) → IsOperator node build →
-      (t u : Term) (head : ℕ) (l r : RawTerm) → Agree (own_sort g t) (own_sort g u) → IsClear t l → IsClear u r →
-      IsClear (build t u) (raw_at head (node l r))
-  two_clear node build is t u head l r agree p q =
-      let (made, sorts) = is head l r in
-      let left = sorted g text false l in
-      let right = sorted g text false r in
-      record {
-        back = made ∙ ap (λ x. build x (term_of g text r)) p.back ∙ ap (build t) q.back;
-        clear = λ final in_fields.
-            let own = no_cause (differ left.own right.own) 9 head (sorts_agree t u l r p.back q.back agree) in
-            ap (λ s. s.faults final in_fields) sorts
-            ∙ ap (λ x. (x ++ left.faults final in_fields) ++ right.faults final in_fields) own
-            ∙ ap (λ x. x ++ right.faults final in_fields) (p.clear final in_fields) ∙ q.clear final in_fields;
-      }
+  -- a node of two parts is clear where they are
+  abbrev IsClearOfTwo : ℕ → List ℕ → (RawTerm → RawTerm → RawNode) → Term → Term → Term → Type 0
+  IsClearOfTwo s above node t u whole = (head : ℕ) (l r : RawTerm) → IsClear s above t l → IsClear s above u r →
+      IsClear s above whole (raw_at head (node l r))
 
-  spaced_clear : (op : Sign) (node : RawTerm → RawTerm → RawNode) (build : Term → Term → Term) →
-      length (sign_spelling op) ≡ 1 →
-      IsOperator node build → (t u : Term) (l r : Laid) → Agree (own_sort g t) (own_sort g u) → StaysClear t l →
-      StaysClear u r → StaysClear (build t u) (spaced op node l r)
-  spaced_clear op node build one is t u l r agree back back' at placed =
+  spaced_clear : (op : Sign) (node : RawTerm → RawTerm → RawNode) (s : ℕ) (above : List ℕ) (t u whole : Term)
+      (l r : Laid) → length (sign_spelling op) ≡ 1 → IsClearOfTwo s above node t u whole → StaysClear s above t l →
+      StaysClear s above u r → StaysClear s above whole (spaced op node l r)
+  spaced_clear op node s above t u whole l r one two back back' at placed =
       let left = placed_left text at (part_pieces 1 l) (space ∷ sign op ∷ space ∷ part_pieces 2 r) placed in
       let rest = placed_right text at (part_pieces 1 l) (space ∷ sign op ∷ space ∷ part_pieces 2 r) placed in
       let w = width (part_pieces 1 l) in
       let place : (((at + w) + 1) + length (sign_spelling op)) + 1 ≡ (at + w + 1) + 2 = omega (arith, one) in
       let right = subst (λ k. Placed text k (part_pieces 2 r)) place rest.1.1.1 in
-      two_clear node build is t u (at + w + 1) (part_raw 1 l at) (part_raw 2 r ((at + w + 1) + 2)) agree
-      (part_clear t l 1 at back left) (part_clear u r 2 ((at + w + 1) + 2) back' right)
+      two (at + w + 1) (part_raw 1 l at) (part_raw 2 r ((at + w + 1) + 2)) (part_clear s above t l 1 at back left)
+      (part_clear s above u r 2 ((at + w + 1) + 2) back' right)
 
-  tight_clear : (op : Sign) (node : RawTerm → RawTerm → RawNode) (build : Term → Term → Term) →
-      length (sign_spelling op) ≡ 1 →
-      IsOperator node build → (t u : Term) (l r : Laid) → Agree (own_sort g t) (own_sort g u) → StaysClear t l →
-      StaysClear u r → StaysClear (build t u) (tight op node l r)
-  tight_clear op node build one is t u l r agree back back' at placed =
+  tight_clear : (op : Sign) (node : RawTerm → RawTerm → RawNode) (s : ℕ) (above : List ℕ) (t u whole : Term)
+      (l r : Laid) → length (sign_spelling op) ≡ 1 → IsClearOfTwo s above node t u whole → StaysClear s above t l →
+      StaysClear s above u r → StaysClear s above whole (tight op node l r)
+  tight_clear op node s above t u whole l r one two back back' at placed =
       let left = placed_left text at (part_pieces 2 l) (sign op ∷ part_pieces 3 r) placed in
       let rest = placed_right text at (part_pieces 2 l) (sign op ∷ part_pieces 3 r) placed in
       let w = width (part_pieces 2 l) in
       let place : (at + w) + length (sign_spelling op) ≡ (at + w) + 1 = omega (arith, one) in
       let right = subst (λ k. Placed text k (part_pieces 3 r)) place rest.1 in
-      two_clear node build is t u (at + w) (part_raw 2 l at) (part_raw 3 r ((at + w) + 1)) agree
-      (part_clear t l 2 at back left) (part_clear u r 3 ((at + w) + 1) back' right)
+      two (at + w) (part_raw 2 l at) (part_raw 3 r ((at + w) + 1)) (part_clear s above t l 2 at back left)
+      (part_clear s above u r 3 ((at + w) + 1) back' right)
 
-  is_add : IsOperator raw.Add Add
+  -- two terms that resolve, in a node of both
+  both_back : (build : Term → Term → Term) (t u : Term) (l r : RawTerm) → term_of g text l ≡ t →
+      term_of g text r ≡ u → build (term_of g text l) (term_of g text r) ≡ build t u
+  both_back build t u l r p q = ap (λ x. build x (term_of g text r)) p ∙ ap (build t) q
+
+  -- each operator
+  two_add : (s : ℕ) (above : List ℕ) (t u : Term) → Agree (own_sort g t) (own_sort g u) →
+      IsClearOfTwo s above raw.Add t u (Add t u)
   unfolding fold_under Rattle.alg_reader.specs.declared.raw.RawNode.TheBlock.hidden-the_row-RawTerm-0
       denote.Hole.Carrier.hidden
-  is_add head l r = (refl, refl)
+  two_add s above t u agree head l r p q = record {
+    back = both_back Add t u l r p.back q.back;
+    clear = operator_clear s above t u head l r agree p q;
+  }
 
-  is_sub : IsOperator raw.Sub Sub
+  two_sub : (s : ℕ) (above : List ℕ) (t u : Term) → Agree (own_sort g t) (own_sort g u) →
+      IsClearOfTwo s above raw.Sub t u (Sub t u)
   unfolding fold_under Rattle.alg_reader.specs.declared.raw.RawNode.TheBlock.hidden-the_row-RawTerm-0
       denote.Hole.Carrier.hidden
-  is_sub head l r = (refl, refl)
+  two_sub s above t u agree head l r p q = record {
+    back = both_back Sub t u l r p.back q.back;
+    clear = operator_clear s above t u head l r agree p q;
+  }
 
-  is_mul : IsOperator raw.Mul Mul
+  two_mul : (s : ℕ) (above : List ℕ) (t u : Term) → Agree (own_sort g t) (own_sort g u) →
+      IsClearOfTwo s above raw.Mul t u (Mul t u)
   unfolding fold_under Rattle.alg_reader.specs.declared.raw.RawNode.TheBlock.hidden-the_row-RawTerm-0
       denote.Hole.Carrier.hidden
-  is_mul head l r = (refl, refl)
+  two_mul s above t u agree head l r p q = record {
+    back = both_back Mul t u l r p.back q.back;
+    clear = operator_clear s above t u head l r agree p q;
+  }
+
+  -- a quotient where one may stand
+  two_div : (s : ℕ) (above : List ℕ) (t u : Term) → Agree (own_sort g t) (own_sort g u) →
+      DividesWhere g may_divide s above (Term-F.Div t u) → IsClearOfTwo s above raw.Div t u (Div t u)
+  unfolding fold_under Rattle.alg_reader.specs.declared.raw.RawNode.TheBlock.hidden-the_row-RawTerm-0
+      denote.Hole.Carrier.hidden
+  two_div s above t u agree (may, (field, fields)) head l r p q =
+      let both = operator head (sorted g text may_divide l) (sorted g text may_divide r) in
+      let free = none_fails may_divide (is_field (kind_of g s)) (to_fields g above) may
+      (field_passes (kind_of g s) field) (all_to_fields g above fields) in
+      record {
+        back = both_back Div t u l r p.back q.back;
+        clear = ap (λ x. x ++ both.faults (Some s) (to_fields g above)) (no_cause _ 13 head free)
+            ∙ operator_clear s above t u head l r agree p q;
+      }
 
   abbrev Clear : Term → Type 0
-  Clear t = Rules g t → StaysClear t (laid file t)
+  Clear t = (s : ℕ) (above : List ℕ) → Rules g t → Divides g may_divide s above t → StaysClear s above t (laid file t)
 
   var_clear : (k : ℕ) → Clear (Var k)
   unfolding fold_term fold_under
-  var_clear k rules at placed =
-      record {
-        back = (term_back file g text distinct grows (Var k) rules.range at placed).0;
-        clear = λ final in_fields. refl;
-      }
+  var_clear k s above rules divides at placed =
+      record { back = (term_back file g text distinct grows (Var k) rules.range at placed).0; clear = refl }
 
   int_clear : (n : ℤ) → Clear (Int n)
   unfolding fold_term fold_under
-  int_clear n rules at placed = record { back = refl; clear = λ final in_fields. refl }
+  int_clear n s above rules divides at placed = record { back = refl; clear = refl }
 
   neg_clear : (t : Term) → Clear t → Clear (Neg t)
-  unfolding fold_term fold_under EachNode Rattle.alg_terms.specs.declared.term.Term.TheBlock.hidden-the_row-Term-0
+  unfolding fold_term fold_under EachNode EachNodeAt
+      Rattle.alg_terms.specs.declared.term.Term.TheBlock.hidden-the_row-Term-0
       Rattle.alg_reader.specs.declared.raw.RawNode.TheBlock.hidden-the_row-RawTerm-0 denote.Hole.Carrier.hidden
-  neg_clear t clear rules at placed =
-      let below : Rules g t = record {
-        range = rules.range.1;
-        exponents = rules.exponents.1;
-        parts = rules.parts.1;
-        arguments = rules.arguments.1;
-        plain = rules.plain.1;
-      } in
-      let part = part_clear t (laid file t) 3 (at + 1) (clear below) placed.1 in
+  neg_clear t clear s above rules divides at placed =
+      let below = neg_rules g t rules in
+      let part = part_clear s above t (laid file t) 3 (at + 1) (clear s above below divides.1) placed.1 in
       record { back = ap Neg part.back; clear = part.clear }
 
   pow_clear : (t : Term) (n : ℕ) → Clear t → Clear (Pow t n)
-  unfolding fold_term fold_under EachNode Rattle.alg_terms.specs.declared.term.Term.TheBlock.hidden-the_row-Term-0
+  unfolding fold_term fold_under EachNode EachNodeAt
+      Rattle.alg_terms.specs.declared.term.Term.TheBlock.hidden-the_row-Term-0
       Rattle.alg_reader.specs.declared.raw.RawNode.TheBlock.hidden-the_row-RawTerm-0 denote.Hole.Carrier.hidden
-  pow_clear t n clear rules at placed =
+  pow_clear t n clear s above rules divides at placed =
       let l = laid file t in
-      let below : Rules g t = record {
-        range = rules.range.1;
-        exponents = rules.exponents.1;
-        parts = rules.parts.1;
-        arguments = rules.arguments.1;
-        plain = rules.plain.1;
-      } in
+      let below = pow_rules g t n rules in
       let base = placed_left text at (part_pieces 5 l) (sign signs.Caret ∷ numeral n ∷ []) placed in
-      let part = part_clear t l 5 at (clear below) base in
+      let part = part_clear s above t l 5 at (clear s above below divides.1) base in
       let low : nat_lt MAX_EXPONENT n ≡ false = let small = rules.exponents.0 in grind (arith, nat_tests) in
       let place = (at + width (part_pieces 5 l)) + 1 in
       record {
         back = ap (λ x. Pow x n) part.back;
-        clear = λ final in_fields.
-            ap (λ x. x ++ (sorted g text false (part_raw 5 l at)).faults final in_fields)
-            (no_cause (nat_lt MAX_EXPONENT n) 12 place low) ∙ part.clear final in_fields;
+        clear = ap (λ x. x ++ (sorted g text may_divide (part_raw 5 l at)).faults (Some s) (to_fields g above))
+            (no_cause (nat_lt MAX_EXPONENT n) 12 place low) ∙ part.clear;
       }
 
   hom_clear : (f : ℕ) (t : Term) → Clear t → Clear (Hom f t)
-  unfolding fold_term fold_under EachNode Rattle.alg_terms.specs.declared.term.Term.TheBlock.hidden-the_row-Term-0
+  unfolding fold_term fold_under EachNode EachNodeAt
+      Rattle.alg_terms.specs.declared.term.Term.TheBlock.hidden-the_row-Term-0
       Rattle.alg_reader.specs.declared.raw.RawNode.TheBlock.hidden-the_row-RawTerm-0 denote.Hole.Carrier.hidden
-  hom_clear f t clear rules at placed =
+  hom_clear f t clear s above rules divides at placed =
       let name = hom_name file f in
       let l = laid file t in
-      let below : Rules g t = record {
-        range = rules.range.1;
-        exponents = rules.exponents.1;
-        parts = rules.parts.1;
-        arguments = rules.arguments.1;
-        plain = rules.plain.1;
-      } in
+      let below = hom_rules g f t rules in
       let (number, used) = hom_used file g text distinct grows f (span at name) rules.range.0
       (span_bytes text at kinds.Name name (in_parentheses l.pieces) placed) in
       let place = at + length name + 1 in
-      let part = clear below place (placed_left text place l.pieces (sign signs.ParenRight ∷ []) placed.1.1) in
-      let inner = sorted g text false (l.raw place) in
-      let fits : differ inner.own (Some (source_of g f)) ≡ false =
-      ap (λ s. differ s (Some (source_of g f))) (own_same t (l.raw place) part.back)
-      ∙ never_differ (own_sort g t) (Some (source_of g f)) rules.arguments.0 in
+      let part = clear (source_of g f) (f ∷ above) below divides.1 place
+      (placed_left text place l.pieces (sign signs.ParenRight ∷ []) placed.1.1) in
+      let inner = sorted g text may_divide (l.raw place) in
+      let source = Some (source_of g f) in
+      let fits : differ inner.own source ≡ false =
+      ap (λ s. differ s source) (own_same t (l.raw place) part.back)
+      ∙ never_differ (own_sort g t) source rules.arguments.0 in
+      let P : ℕ → Type 0 = λ k. (image g text k at inner).faults (Some s) (to_fields g above) ≡ [] in
       record {
         back = ap (λ k. Hom k (term_of g text (l.raw place))) number ∙ ap (Hom f) part.back;
-        clear = λ final in_fields.
-            let P : ℕ → Type 0 = λ k. (image g text k at inner).faults final in_fields ≡ [] in
-            let still = in_fields && is_field (kind_of g (target_of g f)) in
-            let source = Some (source_of g f) in
-            subst P (sym number)
-            (ap (λ x. x ++ inner.faults source still) (no_cause (differ inner.own source) 9 at fits)
-            ∙ part.clear source still);
+        clear = subst P (sym number)
+            (ap (λ x. x ++ inner.faults source (to_fields g (f ∷ above))) (no_cause (differ inner.own source) 9 at fits)
+            ∙ part.clear);
       }
 
-  add_rules : (t u : Term) → Rules g (Add t u) → Rules g t × Rules g u
-  unfolding EachNode Rattle.alg_terms.specs.declared.term.Term.TheBlock.hidden-the_row-Term-0 denote.Hole.Carrier.hidden
-  add_rules t u rules = (
-    record {
-      range = rules.range.1;
-      exponents = rules.exponents.1;
-      parts = rules.parts.1;
-      arguments = rules.arguments.1;
-      plain = rules.plain.1;
-    },
-    record {
-      range = rules.range.2;
-      exponents = rules.exponents.2;
-      parts = rules.parts.2;
-      arguments = rules.arguments.2;
-      plain = rules.plain.2;
-    },
-  )
-
   add_clear : (t u : Term) → Clear t → Clear u → Clear (Add t u)
-  unfolding fold_term EachNode Rattle.alg_terms.specs.declared.term.Term.TheBlock.hidden-the_row-Term-0
+  unfolding fold_term EachNode EachNodeAt Rattle.alg_terms.specs.declared.term.Term.TheBlock.hidden-the_row-Term-0
       denote.Hole.Carrier.hidden
-  add_clear t u clear clear' rules =
-      let (left, right) = add_rules t u rules in
-      spaced_clear signs.Plus raw.Add Add refl is_add t u (laid file t) (laid file u) rules.parts.0 (clear left)
-      (clear' right)
-
-  sub_rules : (t u : Term) → Rules g (Sub t u) → Rules g t × Rules g u
-  unfolding EachNode Rattle.alg_terms.specs.declared.term.Term.TheBlock.hidden-the_row-Term-0 denote.Hole.Carrier.hidden
-  sub_rules t u rules = (
-    record {
-      range = rules.range.1;
-      exponents = rules.exponents.1;
-      parts = rules.parts.1;
-      arguments = rules.arguments.1;
-      plain = rules.plain.1;
-    },
-    record {
-      range = rules.range.2;
-      exponents = rules.exponents.2;
-      parts = rules.parts.2;
-      arguments = rules.arguments.2;
-      plain = rules.plain.2;
-    },
-  )
+  add_clear t u clear clear' s above rules divides =
+      let (left, right) = add_rules g t u rules in
+      spaced_clear signs.Plus raw.Add s above t u (Add t u) (laid file t) (laid file u) refl
+      (two_add s above t u rules.parts.0) (clear s above left divides.1) (clear' s above right divides.2)
 
   sub_clear : (t u : Term) → Clear t → Clear u → Clear (Sub t u)
-  unfolding fold_term EachNode Rattle.alg_terms.specs.declared.term.Term.TheBlock.hidden-the_row-Term-0
+  unfolding fold_term EachNode EachNodeAt Rattle.alg_terms.specs.declared.term.Term.TheBlock.hidden-the_row-Term-0
       denote.Hole.Carrier.hidden
-  sub_clear t u clear clear' rules =
-      let (left, right) = sub_rules t u rules in
-      spaced_clear signs.Minus raw.Sub Sub refl is_sub t u (laid file t) (laid file u) rules.parts.0 (clear left)
-      (clear' right)
-
-  mul_rules : (t u : Term) → Rules g (Mul t u) → Rules g t × Rules g u
-  unfolding EachNode Rattle.alg_terms.specs.declared.term.Term.TheBlock.hidden-the_row-Term-0 denote.Hole.Carrier.hidden
-  mul_rules t u rules = (
-    record {
-      range = rules.range.1;
-      exponents = rules.exponents.1;
-      parts = rules.parts.1;
-      arguments = rules.arguments.1;
-      plain = rules.plain.1;
-    },
-    record {
-      range = rules.range.2;
-      exponents = rules.exponents.2;
-      parts = rules.parts.2;
-      arguments = rules.arguments.2;
-      plain = rules.plain.2;
-    },
-  )
+  sub_clear t u clear clear' s above rules divides =
+      let (left, right) = sub_rules g t u rules in
+      spaced_clear signs.Minus raw.Sub s above t u (Sub t u) (laid file t) (laid file u) refl
+      (two_sub s above t u rules.parts.0) (clear s above left divides.1) (clear' s above right divides.2)
 
   mul_clear : (t u : Term) → Clear t → Clear u → Clear (Mul t u)
-  unfolding fold_term EachNode Rattle.alg_terms.specs.declared.term.Term.TheBlock.hidden-the_row-Term-0
+  unfolding fold_term EachNode EachNodeAt Rattle.alg_terms.specs.declared.term.Term.TheBlock.hidden-the_row-Term-0
       denote.Hole.Carrier.hidden
-  mul_clear t u clear clear' rules =
-      let (left, right) = mul_rules t u rules in
-      tight_clear signs.Star raw.Mul Mul refl is_mul t u (laid file t) (laid file u) rules.parts.0 (clear left)
-      (clear' right)
+  mul_clear t u clear clear' s above rules divides =
+      let (left, right) = mul_rules g t u rules in
+      tight_clear signs.Star raw.Mul s above t u (Mul t u) (laid file t) (laid file u) refl
+      (two_mul s above t u rules.parts.0) (clear s above left divides.1) (clear' s above right divides.2)
 
   div_clear : (t u : Term) → Clear t → Clear u → Clear (Div t u)
-  unfolding EachNode Rattle.alg_terms.specs.declared.term.Term.TheBlock.hidden-the_row-Term-0 denote.Hole.Carrier.hidden
-  div_clear t u clear clear' rules at placed = absurd rules.plain.0
+  unfolding fold_term EachNode EachNodeAt Rattle.alg_terms.specs.declared.term.Term.TheBlock.hidden-the_row-Term-0
+      denote.Hole.Carrier.hidden
+  div_clear t u clear clear' s above rules divides =
+      let (left, right) = div_rules g t u rules in
+      tight_clear signs.Slash raw.Div s above t u (Div t u) (laid file t) (laid file u) refl
+      (two_div s above t u rules.parts.0 divides.0) (clear s above left divides.1) (clear' s above right divides.2)
 
   -- each term of the front has no faults
   pub term_clear : (t : Term) → Clear t

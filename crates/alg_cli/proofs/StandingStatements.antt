@@ -8,28 +8,28 @@ use Rattle.alg_terms.specs.declared.declarations.Sort.{Sort}
 use Rattle.alg_terms.specs.declared.file.File.{File}
 use Rattle.alg_terms.specs.declared.file.Statement.{Statement}
 use Rattle.alg_terms.specs.declared.file.Statement.TheVariants as statement
-use Rattle.alg_terms.specs.declared.goals.Equation.{Equation}
-use Rattle.alg_terms.specs.GoalRules.{IsGoal, IsEquation}
-use Rattle.alg_terms.specs.Members.{sort_at, hom_at, var_at, goal_at, sort_of_var, no_sort, no_hom, no_var, no_goal}
+use Rattle.alg_terms.specs.declared.term.Term.{Term}
+use Rattle.alg_terms.specs.GoalRules.{IsHyp, IsGoal}
+use Rattle.alg_terms.specs.Members.{sort_at, hom_at, var_at, hyp_at, goal_at, sort_of_var, no_sort, no_hom, no_var, no_hyp, no_goal}
 use Rattle.alg_terms.specs.Names.{IsName}
 use Rattle.alg_terms.specs.Order.{numbers_from}
+use Rattle.alg_terms.specs.TermRules.{IsTerm}
 use Rattle.alg_terms.specs.Valid.{IsValid, IsHom, IsVar, names_of}
-use Rattle.alg_tokens.specs.declared.token.Sign.{Sign}
 use Rattle.alg_tokens.specs.declared.token.Sign.TheVariants as signs
-use Rattle.alg_tokens.specs.declared.token.Word.{Word}
 use Rattle.alg_tokens.specs.declared.token.Word.TheVariants as words
-use Rattle.alg_tokens.specs.Pieces.{Piece, IsCut}
+use Rattle.alg_tokens.specs.Pieces.{IsCut}
 use Rattle.alg_tokens.proofs.Neighbours.{spell, spell_append, AllStand, stand_append, cut_standing}
 use Rattle.alg_tokens.proofs.Standing.{BeginsStop, stop_no_sign}
 use Rattle.alg_printer.specs.Names.{sort_name, var_name}
 use Rattle.alg_printer.specs.Text.{text_of, IsStatementOf}
 use Rattle.alg_printer.proofs.Declared.{statements_are_of}
 use Rattle.alg_reader.proofs.Found.{all_split}
-use Rattle.alg_cli.specs.ReadingBack.{IsReadToday}
 use Rattle.alg_cli.proofs.LaidTerms.{laid, space, line_feed, sign, word, name, numeral}
-use Rattle.alg_cli.proofs.LaidStatements.{laid_sort, laid_hom, laid_vars, laid_goal, laid_statement, name_pieces, char_pieces, kind_word, dot, file_pieces}
+use Rattle.alg_cli.proofs.LaidStatements.{laid_sort, laid_hom, laid_vars, laid_statement, name_pieces, char_pieces, kind_word, dot, file_pieces}
 use Rattle.alg_cli.proofs.SpelledStatements.{line_pieces, spelled_file}
-use Rattle.alg_cli.proofs.StandingTerms.{Fits, HasNames, IsWritable, fits_numeral, fits_term}
+use Rattle.alg_cli.proofs.StandingGoals.{stand_hyp, stand_goal}
+use Rattle.alg_cli.proofs.StandingMethods.{stand_method}
+use Rattle.alg_cli.proofs.StandingTerms.{Fits, HasNames, StandsBeforeStop, word_space, sign_space, name_space, fits_numeral, fits_term}
 
 -- ---- the names of a file
 
@@ -53,30 +53,14 @@ has_names file valid =
       sorts = λ s below. named_in (λ sort. sort.name) file.sorts s no_sort below one.0;
       homs = λ f below. named_in (λ hom. hom.name) file.homs f no_hom below one.1;
       vars = λ k below. named_in (λ var. var.name) file.vars k no_var below two.1;
+      hyps = λ h below. named_in (λ hyp. hyp.name) file.hyps h no_hyp below three.1;
     }
 
 -- ---- each form of statement
 
--- the pieces stand before each byte that stops
-abbrev StandsBeforeStop : List Piece → Type 0
-StandsBeforeStop pieces = (next : List ℕ) → BeginsStop next → AllStand pieces next
-
 -- a name before the end of a statement
 stand_name_dot : (bytes : List ℕ) → IsName bytes → StandsBeforeStop (name bytes ∷ dot)
 stand_name_dot bytes is next stops = ((is.0, is.1, (46, _, refl, refl)), ((refl, stop_no_sign next stops), tt))
-
--- a word, a sign or a name, and a space behind it
-word_space : (w : Word) (pieces : List Piece) (next : List ℕ) → AllStand pieces next →
-    AllStand (word w ∷ space ∷ pieces) next
-word_space w pieces next stand = ((refl, (32, _, refl, refl)), ((32, refl, refl), stand))
-
-sign_space : (s : Sign) (pieces : List Piece) (next : List ℕ) → AllStand pieces next →
-    AllStand (sign s ∷ space ∷ pieces) next
-sign_space s pieces next stand = ((refl, λ e. omega (arith, e)), ((32, refl, refl), stand))
-
-name_space : (bytes : List ℕ) (pieces : List Piece) (next : List ℕ) → IsName bytes → AllStand pieces next →
-    AllStand (name bytes ∷ space ∷ pieces) next
-name_space bytes pieces next is stand = ((is.0, is.1, (32, _, refl, refl)), ((32, refl, refl), stand))
 
 -- a name and its characteristic
 stand_char : (bytes : List ℕ) (char0 : Bool) → IsName bytes →
@@ -132,31 +116,6 @@ stand_vars file first count all is next stops =
     stand_append (word words.Var ∷ (name_pieces names ++ separator)) sort next ((refl, begins), middle)
     (stand_name_dot (sort_name file (sort_of_var file first)) is next stops)
 
-stand_goal : (file : File) (e : Equation) → Fits (laid file e.left).pieces → Fits (laid file e.right).pieces →
-    StandsBeforeStop (laid_goal file e).pieces
-stand_goal file e one other next stops =
-    let front = word words.Goal ∷ space ∷ [] in
-    let left = (laid file e.left).pieces in
-    let equal = front ++ (left ++ (space ∷ [])) in
-    let middle = equal ++ (sign signs.Equal ∷ space ∷ []) in
-    let right = (laid file e.right).pieces in
-    let last = space ∷ word words.By ∷ space ∷ [] in
-    let by = middle ++ (right ++ last) in
-    let end = word words.Ring ∷ dot in
-    let end_text : List ℕ = spell end ++ next in
-    let right_text : List ℕ = spell (right ++ last) ++ end_text in
-    let equal_text : List ℕ = spell (sign signs.Equal ∷ space ∷ []) ++ right_text in
-    let left_stands = stand_append left (space ∷ []) equal_text (one.stand _ (32, _, refl, refl))
-    ((32, refl, refl), tt) in
-    let equal_stands : AllStand equal equal_text =
-    word_space words.Goal (left ++ (space ∷ [])) equal_text left_stands in
-    let middle_stands : AllStand middle right_text = stand_append equal (sign signs.Equal ∷ space ∷ []) right_text
-    equal_stands (sign_space signs.Equal [] right_text tt) in
-    let right_stands : AllStand (right ++ last) end_text = stand_append right last end_text
-    (other.stand _ (32, _, refl, refl)) ((32, refl, refl), word_space words.By [] end_text tt) in
-    let by_stands : AllStand by end_text = stand_append middle (right ++ last) end_text middle_stands right_stands in
-    stand_append by end next by_stands ((refl, (46, _, refl, refl)), ((refl, stop_no_sign next stops), tt))
-
 -- ---- all statements
 
 numbers_named : (file : File) → HasNames file → (first count : ℕ) → first + count ≤ length file.vars →
@@ -165,55 +124,56 @@ numbers_named file names first zero fits = tt
 numbers_named file names first (suc count) fits =
     (names.vars first (omega arith), numbers_named file names (suc first) count (omega arith))
 
-writable : (file : File) (e : Equation) → IsEquation file e → IsWritable file e.left × IsWritable file e.right
-writable file e is = (
-  (is.left.indices, is.left.literals, is.left.exponents),
-  (is.right.indices, is.right.literals, is.right.exponents),
-)
+-- a term of the file
+fits : (file : File) (t : Term) → HasNames file → IsTerm file t → Fits (laid file t).pieces
+fits file t names is = fits_term file t names (is.indices, is.literals, is.exponents)
 
-pub stand_statement : (file : File) (s : Statement) → IsValid file → IsReadToday file → IsStatementOf file s →
+pub stand_statement : (file : File) (s : Statement) → IsValid file → IsStatementOf file s →
     StandsBeforeStop (laid_statement file s).pieces
-stand_statement file (statement.Sort s) valid today of =
-    stand_sort (sort_at file s) ((has_names file valid).sorts s of)
-stand_statement file (statement.Hom f) valid today of =
+stand_statement file (statement.Sort s) valid of = stand_sort (sort_at file s) ((has_names file valid).sorts s of)
+stand_statement file (statement.Hom f) valid of =
     let names = has_names file valid in
     let hom : IsHom file (hom_at file f) = All-get_or (IsHom file) file.homs f no_hom of valid.homs in
     stand_hom file (hom_at file f) (names.homs f of) (names.sorts (hom_at file f).from hom.source)
     (names.sorts (hom_at file f).to hom.target)
-stand_statement file (statement.Vars first count) valid today (some, fits) =
+stand_statement file (statement.Vars first count) valid (some, fits) =
     let names = has_names file valid in
     let var : IsVar file (var_at file first) =
     All-get_or (IsVar file) file.vars first no_var (omega arith) valid.vars in
     stand_vars file first count (numbers_named file names first count fits) (names.sorts (sort_of_var file first) var)
-stand_statement file (statement.Hyp h) valid today of =
-    let none = ap length today.hyps in absurd (omega (arith, none, of))
-stand_statement file (statement.Goal i) valid today of =
+stand_statement file (statement.Hyp h) valid of =
+    let names = has_names file valid in
+    let hyp : IsHyp file (hyp_at file h) = All-get_or (IsHyp file) file.hyps h no_hyp of valid.hyps in
+    let e = (hyp_at file h).equation in
+    stand_hyp file (hyp_at file h) (names.hyps h of) (fits file e.left names hyp.equation.left)
+    (fits file e.right names hyp.equation.right)
+stand_statement file (statement.Goal i) valid of =
     let names = has_names file valid in
     let goal : IsGoal file (goal_at file i) = All-get_or (IsGoal file) file.goals i no_goal of valid.goals in
-    let (left, right) = writable file (goal_at file i).equation goal.equation in
-    stand_goal file (goal_at file i).equation (fits_term file (goal_at file i).equation.left names left)
-    (fits_term file (goal_at file i).equation.right names right)
+    let e = (goal_at file i).equation in
+    stand_goal file (goal_at file i) (fits file e.left names goal.equation.left)
+    (fits file e.right names goal.equation.right)
+    (stand_method file e (goal_at file i).method names goal.method)
 
-stand_statements : (file : File) (order : List Statement) → IsValid file → IsReadToday file →
+stand_statements : (file : File) (order : List Statement) → IsValid file →
     AllByRecursion (IsStatementOf file) order → (next : List ℕ) → AllStand (file_pieces file order) next
-stand_statements file [] valid today all next = tt
-stand_statements file (s ∷ order) valid today all next =
+stand_statements file [] valid all next = tt
+stand_statements file (s ∷ order) valid all next =
     let pieces = (laid_statement file s).pieces in
     let after : List ℕ = spell (file_pieces file order) ++ next in
     stand_append (line_pieces pieces) (file_pieces file order) next
     (stand_append pieces (line_feed ∷ []) after
-    (stand_statement file s valid today all.0 (10 ∷ after) (10, after, refl, refl)) ((10, refl, refl), tt))
-    (stand_statements file order valid today all.1 next)
+    (stand_statement file s valid all.0 (10 ∷ after) (10, after, refl, refl)) ((10, refl, refl), tt))
+    (stand_statements file order valid all.1 next)
 
 -- the pieces of a file stand side by side
-pub stand_file : (file : File) → IsValid file → IsReadToday file → AllStand (file_pieces file file.order) []
-stand_file file valid today = stand_statements file file.order valid today
+pub stand_file : (file : File) → IsValid file → AllStand (file_pieces file file.order) []
+stand_file file valid = stand_statements file file.order valid
     (recursion_from_All (IsStatementOf file) file.order (statements_are_of file valid)) []
 
 -- the text of a file is cut into its pieces
-pub cut_file : (file : File) → IsValid file → IsReadToday file →
-    IsCut (file_pieces file file.order) (text_of file []) []
-cut_file file valid today =
+pub cut_file : (file : File) → IsValid file → IsCut (file_pieces file file.order) (text_of file []) []
+cut_file file valid =
     let P : List ℕ → Type 0 = λ bs. IsCut (file_pieces file file.order) bs [] in
-    subst P (append-nil (spell (file_pieces file file.order)) ∙ spelled_file file valid today)
-    (cut_standing (file_pieces file file.order) [] (stand_file file valid today))
+    subst P (append-nil (spell (file_pieces file file.order)) ∙ spelled_file file valid)
+    (cut_standing (file_pieces file file.order) [] (stand_file file valid))

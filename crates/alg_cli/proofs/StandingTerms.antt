@@ -10,6 +10,7 @@ use Rattle.alg_terms.specs.TermRules.{IsInRange, HasLiteral, HasExponent}
 use Rattle.alg_tokens.specs.declared.token.Sign.{Sign}
 use Rattle.alg_tokens.specs.declared.token.Sign.TheVariants as signs
 use Rattle.alg_tokens.specs.declared.token.TheConstants.{MAX}
+use Rattle.alg_tokens.specs.declared.token.Word.{Word}
 use Rattle.alg_tokens.specs.Pieces.{Piece, value_of}
 use Rattle.alg_tokens.specs.Spelling.{sign_spelling}
 use Rattle.alg_tokens.proofs.Leads.{spelled_lead, leads}
@@ -17,7 +18,8 @@ use Rattle.alg_tokens.proofs.Neighbours.{spell, spell_append, AllStand, stand_ap
 use Rattle.alg_tokens.proofs.Numerals.{decimal_numeral}
 use Rattle.alg_tokens.proofs.Standing.{BeginsStop, GoesOnNoSign, stop_no_sign}
 use Rattle.alg_printer.specs.Names.{sort_name, var_name, hom_name}
-use Rattle.alg_cli.proofs.LaidTerms.{Laid, laid, in_parentheses, part_pieces, space, sign, name, numeral, integer}
+use Rattle.alg_cli.proofs.LaidMethods.{hyp_name}
+use Rattle.alg_cli.proofs.LaidTerms.{Laid, laid, in_parentheses, part_pieces, space, sign, word, name, numeral, integer}
 
 -- the pieces stand before each byte that stops, and no sign goes on with them
 pub record Fits (pieces : List Piece) : Type 0 where
@@ -54,6 +56,25 @@ fits_numeral n small =
 fits_integer : (n : ℤ) → (pos 0 ≤ℤ n) × (n ≤ℤ MAX_LITERAL) → Fits (integer n ∷ [])
 fits_integer (pos n) (low, high) = fits_numeral n high
 fits_integer (negsuc n) (low, high) = absurd (omega (arith, ints))
+
+-- ---- a piece with a space behind it
+
+-- the pieces stand before each byte that stops
+abbrev pub StandsBeforeStop : List Piece → Type 0
+StandsBeforeStop pieces = (next : List ℕ) → BeginsStop next → AllStand pieces next
+
+-- a word, a sign and a name
+pub word_space : (w : Word) (pieces : List Piece) (next : List ℕ) → AllStand pieces next →
+    AllStand (word w ∷ space ∷ pieces) next
+word_space w pieces next stand = ((refl, (32, _, refl, refl)), ((32, refl, refl), stand))
+
+pub sign_space : (s : Sign) (pieces : List Piece) (next : List ℕ) → AllStand pieces next →
+    AllStand (sign s ∷ space ∷ pieces) next
+sign_space s pieces next stand = ((refl, λ e. omega (arith, e)), ((32, refl, refl), stand))
+
+pub name_space : (bytes : List ℕ) (pieces : List Piece) (next : List ℕ) → IsName bytes → AllStand pieces next →
+    AllStand (name bytes ∷ space ∷ pieces) next
+name_space bytes pieces next is stand = ((is.0, is.1, (32, _, refl, refl)), ((32, refl, refl), stand))
 
 -- ---- pieces of several
 
@@ -111,7 +132,8 @@ fits_minus part fits = record {
 }
 
 -- a name before parentheses
-fits_called : (bytes : List ℕ) (part : List Piece) → IsName bytes → Fits part → Fits (name bytes ∷ in_parentheses part)
+pub fits_called : (bytes : List ℕ) (part : List Piece) → IsName bytes → Fits part →
+    Fits (name bytes ∷ in_parentheses part)
 fits_called bytes part is fits = record {
   stand = λ next stops. ((is.0, is.1, (40, _, refl, refl)), (fits_parentheses part fits).stand next stops);
   opens = λ next. opens_more (name bytes ∷ []) (in_parentheses part) next (fits_name bytes is);
@@ -124,6 +146,7 @@ pub record HasNames (file : File) : Type 0 where
   pub sorts : (s : ℕ) → s < length file.sorts → IsName (sort_name file s)
   pub homs : (f : ℕ) → f < length file.homs → IsName (hom_name file f)
   pub vars : (k : ℕ) → k < length file.vars → IsName (var_name file k)
+  pub hyps : (h : ℕ) → h < length file.hyps → IsName (hyp_name file h)
 
 -- the names, literals and exponents of a term can be written
 abbrev pub IsWritable : File → Term → Type 0

@@ -62,14 +62,14 @@ module _ (file : File) (valid : IsValid file) (before after : List Statement) wh
       )
 
   -- the variables of the next statement are those behind the front's
-  record AreNext (first count : ℕ) : Type 0 where
-    some : 1 ≤ count
-    one_sort : (k : ℕ) → k < count → sort_of_var file (first + k) ≡ sort_of_var file first
-    here : first ≡ vars_in before
-    fits : first + count ≤ length file.vars
-    more : vars_in (before ++ statement.Vars first count ∷ []) ≡ first + count
+  pub record AreNext (first count : ℕ) : Type 0 where
+    pub some : 1 ≤ count
+    pub one_sort : (k : ℕ) → k < count → sort_of_var file (first + k) ≡ sort_of_var file first
+    pub here : first ≡ vars_in before
+    pub fits : first + count ≤ length file.vars
+    pub more : vars_in (before ++ statement.Vars first count ∷ []) ≡ first + count
 
-  are_next : (first count : ℕ) → file.order ≡ before ++ (statement.Vars first count ∷ after) → AreNext first count
+  pub are_next : (first count : ℕ) → file.order ≡ before ++ (statement.Vars first count ∷ after) → AreNext first count
   are_next first count split =
       let s = statement.Vars first count in
       let (some, one_sort) = All-head (IsOneSorted file) s after (all_right (IsOneSorted file) before (s ∷ after)

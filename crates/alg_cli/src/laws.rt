@@ -1,11 +1,13 @@
 //! Laws of what is written and read. Each is a function whose contract is the law.
 
-ghost use Rattle.alg_cli.specs.ReadingBack.{ReadsBack};
+ghost use Rattle.alg_cli.specs.ReadingBack.{IsWrittenByGrammar, ReadsBack};
 
-/// The canonical text of a valid file without answers reads as that file, where no statement of the
-/// text has more than 200 parentheses open at once, and each can be read today.
+/// The canonical text of a valid file without answers is that file by the whole grammar, where no
+/// statement of the text has more than 200 parentheses open at once. Where the file has no
+/// hypotheses and its goals are by ring, its text reads as the file.
 pub fn reads_back()
-    ensures { ReadsBack }
+    ensures by_grammar { IsWrittenByGrammar }
+    ensures today { ReadsBack }
 {
     alg_tokens::laws::cut_from_anywhere();
 }

@@ -14,7 +14,7 @@ use alg_universe::Rats;
 use std::process::ExitCode;
 use std::{env, io};
 
-/// The words after the program's name.
+/// The words after the program's name. Fails where one of them is no text, or there is no memory.
 fn words_of(rt: &HostRuntime) -> io::Result<Vec<String>> {
     let mut words = Vec::new(rt.alloc());
     for word in env::args(rt)?.skip(1) {
@@ -26,6 +26,8 @@ fn words_of(rt: &HostRuntime) -> io::Result<Vec<String>> {
 fn main(rt: HostRuntime) -> ExitCode {
     let words = match words_of(&rt) {
         Ok(words) => words,
+        // A word that is no text is none that `run` knows.
+        Err(error) if error.kind() == io::ErrorKind::InvalidData => Vec::new(rt.alloc()),
         Err(_) => return ExitCode::from(status::Status::NoMemory.code()),
     };
     let mut source = StdSource::new(rt.reader());

@@ -15,9 +15,9 @@ use Rattle.alg_terms.specs.GoalRules.{IsEquation, IsHyp, IsUse, MayBeBy, IsGoal}
 use Rattle.alg_terms.specs.Kinds.{IsDomain, IsField}
 use Rattle.alg_terms.specs.Members.{kind_of, source_of, hyp_at, no_hyp, no_hom, no_var}
 use Rattle.alg_terms.specs.Nodes.{fold_term, EachNode}
-use Rattle.alg_terms.specs.Sorts.{own_sort, EachNodeAt, Leads, hyp_sort}
+use Rattle.alg_terms.specs.Sorts.{own_sort, equation_sort, EachNodeAt, Leads, hyp_sort}
 use Rattle.alg_terms.specs.TermRules.{IsInRange, HasFieldQuotients, DividesInFields}
-use Rattle.alg_terms.specs.Valid.{IsValid}
+use Rattle.alg_terms.specs.Valid.{IsValid, IsHom, IsVar}
 use Rattle.alg_typing.proofs.Growing.{Grows, kind_same, source_same, target_same, field_same, field_targets, agree_same}
 use Rattle.alg_typing.proofs.GrowingTerms.{or_same, own_same, term_same}
 
@@ -30,10 +30,10 @@ or_in_range : (file : File) (a b : Option ℕ) → SortInRange file a → SortIn
 or_in_range file None b h k = k
 or_in_range file (Some s) b h k = h
 
-module _ (file : File) (valid : IsValid file) where
+module _ (file : File) (homs : All (IsHom file) file.homs) (vars : All (IsVar file) file.vars) where
   pub own_in_range : (t : Term) → EachNode (IsInRange file) t → SortInRange file (own_sort file t)
   unfolding fold_term EachNode
-  own_in_range (Var k) r = valid.vars k no_var r
+  own_in_range (Var k) r = vars k no_var r
   own_in_range (Int n) r = tt
   own_in_range (Neg' _ (more_of-Term t _)) r = own_in_range t r.1
   own_in_range (Add' _ (more_of-Term t _) _ (more_of-Term u _)) r =
@@ -45,15 +45,18 @@ module _ (file : File) (valid : IsValid file) where
   own_in_range (Div' _ (more_of-Term t _) _ (more_of-Term u _)) r =
       or_in_range file (own_sort file t) (own_sort file u) (own_in_range t r.1) (own_in_range u r.2)
   own_in_range (Pow' _ (more_of-Term t _) n) r = own_in_range t r.1
-  own_in_range (Hom' f _ (more_of-Term t _)) r = (valid.homs f no_hom r.0).target
+  own_in_range (Hom' f _ (more_of-Term t _)) r = (homs f no_hom r.0).target
 
-  -- the sort of an equation is one of the file
+  -- the sort of two sides is one of the file
+  pub sides_in_range : (left right : Term) (sort : ℕ) → EachNode (IsInRange file) left →
+      EachNode (IsInRange file) right → equation_sort file left right ≡ Some sort → sort < length file.sorts
+  sides_in_range left right sort l r is =
+      subst (SortInRange file) is
+      (or_in_range file (own_sort file left) (own_sort file right) (own_in_range left l) (own_in_range right r))
+
+  -- and so is that of an equation
   pub equation_in_range : (e : Equation) → IsEquation file e → e.sort < length file.sorts
-  equation_in_range e h =
-      let both : SortInRange file (option_or (own_sort file e.left) (own_sort file e.right)) =
-      or_in_range file (own_sort file e.left) (own_sort file e.right) (own_in_range e.left h.left.indices)
-      (own_in_range e.right h.right.indices) in
-      subst (SortInRange file) h.sort both
+  equation_in_range e h = sides_in_range e.left e.right e.sort h.left.indices h.right.indices h.sort
 
 module _ (old new : File) (grows : Grows old new) (valid : IsValid old) where
   pub equation_same : (e : Equation) → IsEquation old e → IsEquation new e
@@ -114,7 +117,7 @@ module _ (old new : File) (grows : Grows old new) (valid : IsValid old) where
       let there : hyp_at new used.hyp ≡ hyp_at old used.hyp = grows.hyps used.hyp h.hyp in
       let sort : hyp_sort new used ≡ hyp_sort old used = ap (λ hyp. hyp.equation.sort) there in
       let low : hyp_sort old used < length old.sorts =
-      equation_in_range old valid (hyp_at old used.hyp).equation (valid.hyps used.hyp no_hyp h.hyp).equation in
+      equation_in_range old valid.homs valid.vars (hyp_at old used.hyp).equation (valid.hyps used.hyp no_hyp h.hyp).equation in
       record {
         hyp = omega (arith, h.hyp, grows.more_hyps);
         path = All-weaker (λ f. f < length old.homs) (λ f. f < length new.homs) (λ f r. omega (arith, grows.more_homs))
@@ -130,14 +133,14 @@ module _ (old new : File) (grows : Grows old new) (valid : IsValid old) where
   method_same : (e : Equation) (method : Method) → IsEquation old e → MayBeBy old e method → MayBeBy new e method
   method_same e ByRing rules h = h
   method_same e ByField rules h =
-      let low = equation_in_range old valid e rules in
+      let low = equation_in_range old valid.homs valid.vars e rules in
       record {
         field = field_same old new grows e.sort low h.field;
         left = field_quotients e.left e.sort low rules.left.indices h.left;
         right = field_quotients e.right e.sort low rules.right.indices h.right;
       }
   method_same e (ByNsatz uses power limit) rules h = record {
-    domain = subst IsDomain (sym (kind_same old new grows e.sort (equation_in_range old valid e rules))) h.domain;
+    domain = subst IsDomain (sym (kind_same old new grows e.sort (equation_in_range old valid.homs valid.vars e rules))) h.domain;
     divides_nowhere = h.divides_nowhere;
     each_use = All-weaker (IsUse old e.sort) (IsUse new e.sort) (use_same e.sort) uses h.each_use;
     few_uses = h.few_uses;

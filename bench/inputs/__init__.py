@@ -1,0 +1,1 @@
+"""Files for two provers to be compared on: valid and spoilt ones, and those at the limits."""

@@ -1,0 +1,66 @@
+"""Files with what has to be written and the exit status."""
+
+from inputs.limits import MAX_BYTES
+from inputs.terms import MAX
+
+R = "ring R.\n"
+V = "var x y : R.\n"
+X = "var x : R.\n"
+F = "field F.\n"
+Y = "var x y : F.\n"
+HOM_F = "hom f : R -> R.\n"
+HOM_G = "hom g : R -> R.\n"
+NAMES = [f"x{k}" for k in range(1001)]
+
+
+def answered(text, answer, status):
+    return text.encode(), f"{text}  {answer}.\n".encode(), status
+
+
+def refused(text, code, at):
+    return text.encode(), f"refused {code} at {at}\n".encode(), 2
+
+
+def files_with_answers():
+    """Files with what has to be written and the exit status."""
+    great = f"x + {MAX}"
+    less = f"x + {MAX - 1}"
+    power = "(2*x)^{0} = (2*x)^{0}"
+    yield b"", b"", 0
+    yield answered(R + V + "goal (x + y)^2 = x^2 + 2*x*y + y^2 by ring.\n", "proved", 0)
+    yield answered(R + V + "goal (x + y)^2 = x^2 + y^2 by ring.\n", "no at x*y : 2 and 0", 1)
+    yield answered(R + HOM_F + V + "goal f(x*y + 1) = f(x)*f(y) + 1 by ring.\n", "proved", 0)
+    paths = R + HOM_F + HOM_G + V + "goal f(g(x)) = g(f(x)) by ring.\n"
+    yield answered(paths, "no at f(g(x)) : 1 and 0", 1)
+    yield answered(R + V + f"goal {less} = {less} by ring.\n", "proved", 0)
+    yield answered(R + V + f"goal {great} = {great} by ring.\n", "range", 1)
+    yield answered(R + V + f"goal {power.format(126)} by ring.\n", "proved", 0)
+    yield answered(R + V + f"goal {power.format(127)} by ring.\n", "range", 1)
+    yield answered(R + V + "goal x - x + 1 = 0 by ring.\n", "no at 1 : 1 and 0", 1)
+    yield refused(R + X + "goal 1 = 0 by ring.\n", 10, 26)
+    yield refused("ring R.\nvar x : R", 5, 17)
+    yield refused("var x : R.\n", 7, 8)
+    yield b" " * MAX_BYTES, b"", 0
+    yield b" " * (MAX_BYTES + 1), b"refused large\n", 2
+    yield answered(R + V + "goal x^1000*x = 0 by ring.\n", "degree", 1)
+    yield answered(R + V + "goal x^1000 = x^1000 by ring.\n", "proved", 0)
+    yield refused(R + X + f"goal {'+'.join(['x'] * 1001)} = 0 by ring.\n", 11, 2023)
+    yield refused(R + X + "goal " + "(" * 201 + "\n", 19, 224)
+    yield refused(R + X + f"goal x = {MAX + 1} by ring.\n", 3, 28)
+    yield refused(F + "var x : F.\ngoal x/x = 1 by ring.\n", 13, 26)
+    yield b"\xff", b"refused 1 at 0\n", 2
+    yield answered(R + "var α : R.\ngoal α + α = 2*α by ring.\n", "proved", 0)
+    many = f"var {' '.join(NAMES)} : R.\ngoal {unwrapped(NAMES)} = 0 by ring.\n"
+    yield answered(R + many, "atoms", 1)
+    yield refused(F + Y + "goal x/x = 1 by field.\n", 20, 38)
+    yield refused(R + X + "goal x = 0 by nsatz.\n", 20, 33)
+    yield refused(R + V + "hyp H : x = y.\n", 20, 21)
+
+
+def unwrapped(names):
+    """A balanced sum as it is printed: no parentheses but around right parts."""
+    if len(names) == 1:
+        return names[0]
+    middle = (len(names) + 1) // 2
+    left, right = unwrapped(names[:middle]), unwrapped(names[middle:])
+    return f"{left} + ({right})" if len(names) - middle > 1 else f"{left} + {right}"

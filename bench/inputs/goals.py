@@ -1,0 +1,79 @@
+"""Generated goals and statements, as lists of tokens."""
+
+from inputs.scopes import Scope
+from inputs.terms import dense_sides, edge_term, long_image, long_sum, rewritten, spoilt, term
+
+LEVEL = {"+": 1, "-": 1, "*": 2, "/": 2, "neg": 3, "^": 4}
+
+
+def tokens_of(rng, t, wanted, extra):
+    """The tokens of a term, with parentheses where they are wanted and at times elsewhere."""
+    level = LEVEL.get(t[0], 5)
+    if t[0] in ("var", "int"):
+        made = [t[1]]
+    elif t[0] == "neg":
+        made = ["-", *tokens_of(rng, t[1], 3, extra)]
+    elif t[0] == "hom":
+        made = [t[1], "(", *tokens_of(rng, t[2], 1, extra), ")"]
+    elif t[0] == "^":
+        made = [*tokens_of(rng, t[1], 5, extra), "^", t[2]]
+    else:
+        made = [*tokens_of(rng, t[1], level, extra), t[0], *tokens_of(rng, t[2], level + 1, extra)]
+    return ["(", *made, ")"] if level < wanted or rng.random() < extra else made
+
+
+def loose_tokens(scope):
+    """Tokens of terms, an operand and an operator in turn, but for a few."""
+    rng = scope.rng
+    operands = [scope.leaf(sort)[1] for sort in scope.sorts] + [hom[0] for hom in scope.homs]
+    operands += ["(", "-"]
+    operators = ["+", "-", "*", "^", ")", "=", "("]
+    made = []
+    for k in range(rng.randint(1, 14)):
+        in_turn = (operands, operators)[k % 2]
+        made.append(rng.choice(in_turn if rng.random() < 0.85 else operands + operators))
+    return made
+
+
+def sides(scope, sort):
+    """The two sides of a goal, often with the same polynomial."""
+    rng = scope.rng
+    kind = rng.choice("same same same near different dense edge edge long".split())
+    if kind in ("same", "near"):
+        left = term(scope, sort, rng.choice([1, 3, 6, 10, 15]))
+        right = rewritten(rng, rewritten(rng, left))
+        more = (rng.choice("+-"), right, term(scope, sort, rng.randint(1, 3)))
+        return left, right if kind == "same" else more
+    if kind == "different":
+        return term(scope, sort, rng.randint(1, 12)), term(scope, sort, rng.randint(1, 12))
+    if kind == "dense":
+        return dense_sides(scope, sort)
+    if kind == "edge":
+        left = edge_term(scope, sort)
+        return left, left if rng.random() < 0.4 else edge_term(scope, sort)
+    return long_sum(scope, sort), long_image(scope, sort)
+
+
+def goal(scope):
+    rng = scope.rng
+    if rng.random() < 0.08:
+        return ["goal", *loose_tokens(scope), "=", *loose_tokens(scope), "by", "ring", "."]
+    left, right = sides(scope, rng.choice([sort for _, sort in scope.variables]))
+    if rng.random() < 0.1:
+        left, right = right, left
+    for _ in range(rng.choice([0, 0, 0, 0, 1, 2])):
+        left = spoilt(scope, left)
+        right = spoilt(scope, right) if rng.random() < 0.5 else right
+    extra = rng.choice([0, 0, 0.1])
+    left, right = tokens_of(rng, left, 1, extra), tokens_of(rng, right, 1, extra)
+    return ["goal", *left, "=", *right, "by", "ring", "."]
+
+
+def statements(rng):
+    scope = Scope(rng)
+    made = scope.declarations()
+    for _ in range(rng.choice([0, 1, 1, 2, 3])):
+        made.append(goal(scope))
+        if rng.random() < 0.2:
+            made.append(scope.var())
+    return made
