@@ -10,7 +10,7 @@ use Rattle.alg_typing.specs.Reading.{first_fault}
 use Rattle.alg_typing.specs.SortFaults.{sort_faults}
 use Rattle.alg_typing.proofs.Firsts.{no_faults}
 
-neither : (x y : Option Refusal) → option_or x y ≡ None → (x ≡ None) × (y ≡ None)
+pub neither : (x y : Option Refusal) → option_or x y ≡ None → (x ≡ None) × (y ≡ None)
 neither None y h = (Rattle.std.proofs.Common.refl, h)
 neither (Some f) y h = cc
 

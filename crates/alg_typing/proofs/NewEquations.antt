@@ -30,7 +30,7 @@ some_sort (Some s) h = refl
 
 module _ (file : File) (text : List ℕ) where
   -- a term whose names and sorts have no faults is one of the file
-  term_kept : (b : Bool) (t : RawTerm) (final : Option ℕ) (only_fields : Bool) → IsWellTerm text t →
+  pub term_kept : (b : Bool) (t : RawTerm) (final : Option ℕ) (only_fields : Bool) → IsWellTerm text t →
       term_names file text t ≡ [] → (sorted file text b t).faults final only_fields ≡ [] → IsTerm file (term_of file text t)
   term_kept b t final only_fields well names sorts =
       let (exponents, parts, arguments) = rules_kept file text b t.head t.node final only_fields sorts in

@@ -9,6 +9,7 @@ pub mod Checks
 pub mod TermsOf
 pub mod Wanted
 pub mod Reading
+pub mod AnswerTerms
 pub mod Room
 pub mod Ends
 pub mod Laws

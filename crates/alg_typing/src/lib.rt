@@ -5,6 +5,9 @@
 #![tactic(auto)]
 
 mod adding;
+mod answer_terms;
+#[cfg(test)]
+mod answer_tests;
 mod declaration;
 mod faults;
 mod known;
