@@ -56,14 +56,6 @@ impl Scope<'_> {
 }
 
 impl Declared {
-    /// A goal of the file so far.
-    fn goal_at(&self, goal: u32) -> &Goal
-        requires { goal < length self.now.goals }
-        ensures { result.now ≡ goal_at self.now goal }
-    {
-        &self.file().goals.items()[goal as usize]
-    }
-
     /// The term of an answer to a goal, by the names that are declared so far, or its first fault.
     /// Its final sort is its own, or the goal's where it has none. Linear in the term.
     #[tactic(none)]

@@ -13,6 +13,7 @@ mod faults;
 mod known;
 pub mod laws;
 mod lists;
+mod members;
 mod name_faults;
 mod names;
 mod reading;
