@@ -16,7 +16,8 @@ use Rattle.alg_reader.specs.WellRead.{IsWellTerm, IsWellEquation}
 use Rattle.alg_reader.specs.RawTerms.{literals_in}
 use Rattle.alg_typing.specs.NameFaults.{term_names, equation_names}
 use Rattle.alg_typing.specs.Resolved.{term_of, equation_of}
-use Rattle.alg_typing.specs.SortFaults.{sorted, equation_sorts}
+use Rattle.alg_typing.specs.SortFaults.{equation_sorts}
+use Rattle.alg_typing.specs.TermSorts.{sorted}
 use Rattle.alg_typing.proofs.GrowingTerms.{or_same}
 use Rattle.alg_typing.proofs.NumbersInRange.{parts_empty, no_fault}
 use Rattle.alg_typing.proofs.Quotients.{no_quotient, in_fields}

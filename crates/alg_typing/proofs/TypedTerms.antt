@@ -16,7 +16,7 @@ use Rattle.alg_typing.specs.AnswerTerms.{may_divide, answer_sorts, first_fault_o
 use Rattle.alg_typing.specs.Faults.{first_of}
 use Rattle.alg_typing.specs.NameFaults.{term_names}
 use Rattle.alg_typing.specs.Resolved.{term_of}
-use Rattle.alg_typing.specs.SortFaults.{sorted}
+use Rattle.alg_typing.specs.TermSorts.{sorted}
 use Rattle.alg_typing.specs.TermsOf.{IsSmallTermOf}
 use Rattle.alg_typing.proofs.Faultless.{neither}
 use Rattle.alg_typing.proofs.Firsts.{no_faults}

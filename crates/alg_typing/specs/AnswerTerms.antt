@@ -12,7 +12,7 @@ use Rattle.alg_tokens.specs.declared.token.Refusal.{Refusal}
 use Rattle.alg_reader.specs.declared.raw.RawTerm.{RawTerm}
 use Rattle.alg_typing.specs.Faults.{first_of}
 use Rattle.alg_typing.specs.NameFaults.{term_names}
-use Rattle.alg_typing.specs.SortFaults.{sorted}
+use Rattle.alg_typing.specs.TermSorts.{sorted}
 
 -- whether an answer to a goal by this method may have quotients
 abbrev pub may_divide : Method → Bool

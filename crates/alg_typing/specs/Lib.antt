@@ -2,6 +2,7 @@ pub mod Names
 pub mod Faults
 pub mod NameFaults
 pub mod Resolved
+pub mod TermSorts
 pub mod SortFaults
 pub mod Table
 pub mod Additions

@@ -1,7 +1,7 @@
 use Rattle.std.proofs.Common.{◌∙◌, ap, sym, true, Some, unwrap_or}
 use Rattle.alg_typing.specs.AnswerTerms.{may_divide}
 use Rattle.alg_typing.specs.Faults.{first_of}
-use Rattle.alg_typing.specs.SortFaults.{sorted}
+use Rattle.alg_typing.specs.TermSorts.{sorted}
 use Rattle.alg_typing.proofs.Sorted.{sorted_own}
 use Rattle.alg_typing.proofs.scope.Scope.answer_sorts.Goals as goal
 
