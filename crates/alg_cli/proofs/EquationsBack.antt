@@ -16,7 +16,8 @@ use Rattle.alg_reader.specs.declared.raw.RawEquation.{RawEquation}
 use Rattle.alg_reader.specs.declared.raw.RawTerm.{RawTerm}
 use Rattle.alg_typing.specs.NameFaults.{term_names, equation_names}
 use Rattle.alg_typing.specs.Resolved.{term_of, equation_of}
-use Rattle.alg_typing.specs.SortFaults.{sorted, differ, equation_sorts, sort_of_sides}
+use Rattle.alg_typing.specs.SortFaults.{equation_sorts, sort_of_sides}
+use Rattle.alg_typing.specs.TermSorts.{sorted, differ}
 use Rattle.alg_typing.proofs.FreshNames.{AreDistinct}
 use Rattle.alg_typing.proofs.Growing.{Grows, agree_same}
 use Rattle.alg_typing.proofs.GrowingTerms.{own_same, or_same}

@@ -19,6 +19,7 @@ use Rattle.alg_tokens.specs.declared.token.Word.TheVariants as words
 use Rattle.alg_tokens.specs.Laws.{width}
 use Rattle.alg_reader.specs.declared.raw.RawEquation.{RawEquation}
 use Rattle.alg_reader.specs.declared.raw.RawMethod.{RawMethod}
+use Rattle.alg_typing.specs.AnswerTerms.{may_divide}
 use Rattle.alg_typing.specs.NameFaults.{equation_names, method_names}
 use Rattle.alg_typing.specs.Resolved.{equation_of, method_of}
 use Rattle.alg_typing.specs.SortFaults.{equation_sorts, method_sorts, may_divide_by, sort_of_sides}
@@ -32,7 +33,7 @@ use Rattle.alg_cli.proofs.Fronts.{front, goals_in, grows, next}
 use Rattle.alg_cli.proofs.LaidMethods.{method_pieces, method_raw}
 use Rattle.alg_cli.proofs.LaidStatements.{laid_goal, laid_sides, goal_front, dot}
 use Rattle.alg_cli.proofs.LaidTerms.{space, word}
-use Rattle.alg_cli.proofs.MethodsBack.{IsMethodBack, method_back, may_divide, may_divide_back}
+use Rattle.alg_cli.proofs.MethodsBack.{IsMethodBack, method_back, may_divide_back}
 use Rattle.alg_cli.proofs.NamesTaken.{two_empty}
 use Rattle.alg_cli.proofs.NextLists.{same_lists, same_list, next_item}
 use Rattle.alg_cli.proofs.Placed.{Placed, placed_left, placed_right}

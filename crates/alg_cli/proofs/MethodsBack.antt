@@ -21,9 +21,11 @@ use Rattle.alg_tokens.specs.Laws.{width}
 use Rattle.alg_reader.specs.declared.raw.RawMethod.{RawMethod}
 use Rattle.alg_reader.specs.declared.raw.RawUse.{RawUse}
 use Rattle.alg_typing.specs.Faults.{fault_if}
+use Rattle.alg_typing.specs.AnswerTerms.{may_divide}
 use Rattle.alg_typing.specs.NameFaults.{use_names, method_names}
 use Rattle.alg_typing.specs.Resolved.{use_of, method_of}
-use Rattle.alg_typing.specs.SortFaults.{is_ring, is_no_field, use_sorts, option_range, method_sorts, may_divide_by}
+use Rattle.alg_typing.specs.SortFaults.{use_sorts, option_range, method_sorts, may_divide_by}
+use Rattle.alg_typing.specs.TermSorts.{is_ring, is_no_field}
 use Rattle.alg_typing.proofs.FreshNames.{AreDistinct}
 use Rattle.alg_typing.proofs.Growing.{Grows, kind_same}
 use Rattle.alg_cli.proofs.Closed.{IsClosed}
@@ -45,12 +47,6 @@ option_clear : (low high value at : ℕ) → low ≤ value → value ≤ high �
     option_range low high (Some (record { value = pos value; at = at })) ≡ []
 option_clear low high value at least most =
     no_cause (nat_lt value low || nat_lt high value) 16 at (grind (arith, nat_tests))
-
--- whether a goal by a method may have quotients
-abbrev pub may_divide : Method → Bool
-may_divide ByRing = false
-may_divide ByField = true
-may_divide (ByNsatz uses power limit) = false
 
 -- raw uses that come back
 pub record AreUsesBack (g : File) (text : List ℕ) (uses : List Use) (raws : List RawUse) : Type 0 where

@@ -13,7 +13,7 @@ use Rattle.alg_terms.specs.Members.{kind_of, target_of}
 use Rattle.alg_terms.specs.Nodes.{EachNode}
 use Rattle.alg_terms.specs.Sorts.{EachNodeAt}
 use Rattle.alg_terms.specs.TermRules.{IsInRange, HasExponent, HasAgreeingParts, HasFittingArgument, DividesInFields}
-use Rattle.alg_typing.specs.SortFaults.{is_field}
+use Rattle.alg_typing.specs.TermSorts.{is_field}
 
 -- a quotient stands in a goal that may have them, at a field and below morphisms to fields
 abbrev pub DividesWhere : File → Bool → ℕ → List ℕ → Term-F Term → Type 0

@@ -28,7 +28,7 @@ use Rattle.alg_reader.specs.declared.raw.RawTerm.{RawTerm}
 use Rattle.alg_reader.specs.RawTerms.{fold_under}
 use Rattle.alg_typing.specs.Faults.{fault_if}
 use Rattle.alg_typing.specs.Resolved.{term_of}
-use Rattle.alg_typing.specs.SortFaults.{sorted, differ, operator, image, is_field}
+use Rattle.alg_typing.specs.TermSorts.{sorted, differ, operator, image, is_field}
 use Rattle.alg_typing.proofs.FreshNames.{AreDistinct}
 use Rattle.alg_typing.proofs.Growing.{Grows}
 use Rattle.alg_typing.proofs.Induction.{induction}

@@ -21,7 +21,8 @@ use Rattle.alg_typing.specs.Faults.{fault_if}
 use Rattle.alg_typing.specs.NameFaults.{used_name, use_names}
 use Rattle.alg_typing.specs.Names.{is_hom, is_hyp}
 use Rattle.alg_typing.specs.Resolved.{number_at, use_of}
-use Rattle.alg_typing.specs.SortFaults.{is_field, sort_along, path_sorts, is_bad_unequal, use_sorts, start_of}
+use Rattle.alg_typing.specs.SortFaults.{sort_along, path_sorts, is_bad_unequal, use_sorts, start_of}
+use Rattle.alg_typing.specs.TermSorts.{is_field}
 use Rattle.alg_typing.proofs.FreshNames.{AreDistinct}
 use Rattle.alg_typing.proofs.Growing.{Grows, kind_same, source_same, target_same}
 use Rattle.alg_typing.proofs.Ordering.{all_left, all_right}

@@ -1,7 +1,6 @@
 -- A valid file with one more statement, which was read without fault, is valid.
-use Rattle.std.proofs.Common.{◌≡◌, ◌≤◌, ◌<◌, ◌+◌, ℕ, false, List, [], ◌∷◌, ◌++◌, length, map, Option, None, Some, refl, sym, ◌∙◌, subst, arith, append-nil, append_assoc}
+use Rattle.std.proofs.Common.{◌≡◌, ◌≤◌, ◌<◌, ◌+◌, ℕ, false, List, [], ◌∷◌, ◌++◌, length, map, None, Some, refl, sym, ◌∙◌, subst, arith, append-nil, append_assoc}
 use Rattle.std.specs.Prelude.{All, flat_map}
-use Rattle.std.specs.Option.{option_or, option_map}
 use Rattle.std.proofs.lemmas.List.{map-append}
 use Rattle.std.proofs.lemmas.List.Elements.{All-nil, All-cons, All-append}
 use Rattle.alg_terms.specs.declared.file.File.{File}
@@ -18,7 +17,6 @@ use Rattle.alg_terms.specs.Names.{IsName}
 use Rattle.alg_terms.specs.Occurring.{vars_in, homs_in}
 use Rattle.alg_terms.specs.Order.{Members, AreAmong, members_of}
 use Rattle.alg_terms.specs.Valid.{IsValid, IsSort, IsHom, IsVar}
-use Rattle.alg_tokens.specs.declared.token.Refusal.{Refusal}
 use Rattle.alg_reader.specs.declared.raw.RawEquation.{RawEquation}
 use Rattle.alg_reader.specs.declared.raw.RawKind.{RawKind}
 use Rattle.alg_reader.specs.declared.raw.RawKind.TheVariants as raws
@@ -27,7 +25,6 @@ use Rattle.alg_reader.specs.declared.raw.RawMethod.TheVariants as methods
 use Rattle.alg_reader.specs.declared.raw.Span.{Span}
 use Rattle.alg_reader.specs.declared.reading.Raw.{Raw}
 use Rattle.alg_reader.specs.WellRead.{bytes_at, IsWellKind, IsWellRead, members_in}
-use Rattle.alg_typing.specs.Faults.{first_of, fault}
 use Rattle.alg_typing.specs.NameFaults.{name_faults, new_name, equation_names, method_names}
 use Rattle.alg_typing.specs.Reading.{first_fault}
 use Rattle.alg_typing.specs.Resolved.{extended, equation_of, method_of}
@@ -35,6 +32,7 @@ use Rattle.alg_typing.specs.Room.{HasRoom}
 use Rattle.alg_typing.specs.SortFaults.{sort_faults, equation_sorts, method_sorts, may_divide_by, sort_of_sides}
 use Rattle.alg_typing.proofs.Assembling.{assembled}
 use Rattle.alg_typing.proofs.ExtendsDeclarations.{none_among, extends_sort, extends_hom, extends_vars}
+use Rattle.alg_typing.proofs.Faultless.{no_name_faults, no_sort_faults}
 use Rattle.alg_typing.proofs.MoreMembers.{Further, last_at, named}
 use Rattle.alg_typing.proofs.NewEquations.{sides_resolved, equation_kept, divides_nowhere}
 use Rattle.alg_typing.proofs.NewlyNamed.{is_new}
@@ -212,20 +210,8 @@ module _ (file : File) (text : List ℕ) (valid : IsValid file) where
   extends_kind (raws.Hyp name e) well names sorts room = extends_hyp name e well names sorts room
   extends_kind (raws.Goal e method method_at) well names sorts room = extends_goal e method method_at well names sorts room
 
--- where there is no first fault, there is none
-nothing_first : (faults : List Refusal) → first_of faults ≡ None → faults ≡ []
-nothing_first [] h = refl
-nothing_first (f ∷ faults) h = absurd (cc)
-
-or_nothing : {X : Type 0} (a b : Option X) → option_or a b ≡ None → (a ≡ None) × (b ≡ None)
-or_nothing None b h = (refl, h)
-or_nothing (Some x) b h = absurd (cc)
-
 -- a valid file with one more statement, which was read and has no fault, is valid
 pub extended_is_valid : (file : File) (text : List ℕ) (at : ℕ) (raw : Raw) → IsValid file → IsWellRead text at raw →
     HasRoom file raw.kind → first_fault file text raw ≡ None → IsValid (extended file text raw.kind)
 extended_is_valid file text at raw valid well room h =
-    let (deep, later) = or_nothing (option_map (fault 11) raw.too_deep)
-    (option_or (first_of (name_faults file text raw.kind)) (first_of (sort_faults file text raw.kind))) h in
-    let (names, sorts) = or_nothing (first_of (name_faults file text raw.kind)) (first_of (sort_faults file text raw.kind)) later in
-    extends_kind file text valid raw.kind well.kind (nothing_first _ names) (nothing_first _ sorts) room
+    extends_kind file text valid raw.kind well.kind (no_name_faults file text raw h) (no_sort_faults file text raw h) room

@@ -1,5 +1,5 @@
 -- What is known of a statement without a first fault.
-use Rattle.std.proofs.Common.{◌≡◌, ℕ, List, [], Option, None, Some}
+use Rattle.std.proofs.Common.{◌≡◌, ℕ, List, [], Option, None, Some, refl}
 use Rattle.std.specs.Option.{option_or, option_map}
 use Rattle.alg_terms.specs.declared.file.File.{File}
 use Rattle.alg_tokens.specs.declared.token.Refusal.{Refusal}
@@ -10,8 +10,8 @@ use Rattle.alg_typing.specs.Reading.{first_fault}
 use Rattle.alg_typing.specs.SortFaults.{sort_faults}
 use Rattle.alg_typing.proofs.Firsts.{no_faults}
 
-neither : (x y : Option Refusal) → option_or x y ≡ None → (x ≡ None) × (y ≡ None)
-neither None y h = (Rattle.std.proofs.Common.refl, h)
+pub neither : (x y : Option Refusal) → option_or x y ≡ None → (x ≡ None) × (y ≡ None)
+neither None y h = (refl, h)
 neither (Some f) y h = cc
 
 module _ (file : File) (text : List ℕ) (raw : Raw) (none : first_fault file text raw ≡ None) where

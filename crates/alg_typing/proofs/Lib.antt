@@ -34,3 +34,4 @@ pub mod VarTables
 pub mod OneReading
 pub mod FirstFaults
 pub mod ReadingSteps
+pub mod TypedTerms

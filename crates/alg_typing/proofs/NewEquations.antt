@@ -16,7 +16,8 @@ use Rattle.alg_reader.specs.WellRead.{IsWellTerm, IsWellEquation}
 use Rattle.alg_reader.specs.RawTerms.{literals_in}
 use Rattle.alg_typing.specs.NameFaults.{term_names, equation_names}
 use Rattle.alg_typing.specs.Resolved.{term_of, equation_of}
-use Rattle.alg_typing.specs.SortFaults.{sorted, equation_sorts}
+use Rattle.alg_typing.specs.SortFaults.{equation_sorts}
+use Rattle.alg_typing.specs.TermSorts.{sorted}
 use Rattle.alg_typing.proofs.GrowingTerms.{or_same}
 use Rattle.alg_typing.proofs.NumbersInRange.{parts_empty, no_fault}
 use Rattle.alg_typing.proofs.Quotients.{no_quotient, in_fields}
@@ -30,7 +31,7 @@ some_sort (Some s) h = refl
 
 module _ (file : File) (text : List ℕ) where
   -- a term whose names and sorts have no faults is one of the file
-  term_kept : (b : Bool) (t : RawTerm) (final : Option ℕ) (only_fields : Bool) → IsWellTerm text t →
+  pub term_kept : (b : Bool) (t : RawTerm) (final : Option ℕ) (only_fields : Bool) → IsWellTerm text t →
       term_names file text t ≡ [] → (sorted file text b t).faults final only_fields ≡ [] → IsTerm file (term_of file text t)
   term_kept b t final only_fields well names sorts =
       let (exponents, parts, arguments) = rules_kept file text b t.head t.node final only_fields sorts in

@@ -20,7 +20,8 @@ use Rattle.alg_reader.specs.declared.raw.Span.{Span}
 use Rattle.alg_typing.specs.NameFaults.{used_name, use_names, method_names}
 use Rattle.alg_typing.specs.Names.{is_hom}
 use Rattle.alg_typing.specs.Resolved.{number_at, option_of, equation_of, use_of, method_of}
-use Rattle.alg_typing.specs.SortFaults.{option_range, is_ring, is_field, sort_along, path_sorts, is_bad_unequal, use_sorts, start_of, method_sorts, may_divide_by, equation_sorts}
+use Rattle.alg_typing.specs.SortFaults.{option_range, sort_along, path_sorts, is_bad_unequal, use_sorts, start_of, method_sorts, may_divide_by, equation_sorts}
+use Rattle.alg_typing.specs.TermSorts.{is_ring, is_field}
 use Rattle.alg_typing.proofs.NewEquations.{divides_nowhere, divides_in_fields}
 use Rattle.alg_typing.proofs.NumbersInRange.{parts_empty, no_fault, hom_number, hyp_number}
 use Rattle.alg_typing.proofs.Quotients.{field_if, domain_if, or_false, not_false}

@@ -13,7 +13,7 @@ use Rattle.alg_terms.specs.TermRules.{IsNoQuotient, DividesInFields}
 use Rattle.alg_reader.specs.declared.raw.RawNode.{RawNode, more_of-RawTerm, Var, Int, Neg', Add', Sub', Mul', Div', Pow', Hom'}
 use Rattle.alg_reader.specs.RawTerms.{fold_under}
 use Rattle.alg_typing.specs.Resolved.{number_at}
-use Rattle.alg_typing.specs.SortFaults.{is_field, is_ring, quotient}
+use Rattle.alg_typing.specs.TermSorts.{is_field, is_ring, quotient}
 use Rattle.alg_typing.proofs.NumbersInRange.{parts_empty, no_fault}
 use Rattle.alg_typing.proofs.Resolving.{resolved, sorted_under}
 

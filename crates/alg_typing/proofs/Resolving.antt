@@ -13,7 +13,7 @@ use Rattle.alg_reader.specs.RawTerms as raw
 use Rattle.alg_reader.specs.RawTerms.{fold_under, of_parts, literals_of_node}
 use Rattle.alg_typing.specs.NameFaults.{node_name}
 use Rattle.alg_typing.specs.Resolved.{node_term}
-use Rattle.alg_typing.specs.SortFaults.{Sorted, differ, node_sorted}
+use Rattle.alg_typing.specs.TermSorts.{Sorted, differ, node_sorted}
 use Rattle.alg_typing.proofs.GrowingTerms.{or_same}
 use Rattle.alg_typing.proofs.NumbersInRange.{parts_empty, var_number, hom_number}
 

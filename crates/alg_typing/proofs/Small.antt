@@ -18,7 +18,8 @@ use Rattle.alg_reader.specs.declared.raw.RawTerm.{RawTerm}
 use Rattle.alg_reader.specs.RawTerms.{fold_under, exponents_of_node}
 use Rattle.alg_reader.specs.WellRead.{IsWellEquation, IsWellTerm}
 use Rattle.alg_typing.specs.Resolved.{node_term, term_of, number_at}
-use Rattle.alg_typing.specs.SortFaults.{sorted, node_sorted, exponent, option_range, equation_sorts, method_sorts, sort_of_sides}
+use Rattle.alg_typing.specs.SortFaults.{option_range, equation_sorts, method_sorts, sort_of_sides}
+use Rattle.alg_typing.specs.TermSorts.{sorted, node_sorted, exponent}
 use Rattle.alg_typing.specs.TermsOf.{IsExponent, IsSmallTermOf, HasSmallOptions}
 use Rattle.alg_typing.proofs.RawParts.{own_and_parts}
 use Rattle.alg_typing.proofs.VarTables.{both_none, not_there}

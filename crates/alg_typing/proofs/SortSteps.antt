@@ -11,7 +11,8 @@ use Rattle.alg_typing.specs.declared.sorts.Checked.{Checked}
 use Rattle.alg_typing.specs.Checks.{IsCheckOf}
 use Rattle.alg_typing.specs.Faults.{earlier_of, fault_if, first_of}
 use Rattle.alg_typing.specs.Resolved.{number_at}
-use Rattle.alg_typing.specs.SortFaults.{differ, equation_sorts, path_sorts, sort_along, sort_of_sides, sorted}
+use Rattle.alg_typing.specs.SortFaults.{equation_sorts, path_sorts, sort_along, sort_of_sides}
+use Rattle.alg_typing.specs.TermSorts.{differ, sorted}
 use Rattle.alg_typing.proofs.Firsts.{first_of-append, earlier_of-assoc}
 use Rattle.alg_typing.proofs.Sorted.{first_of-three, sorted_own}
 

@@ -15,7 +15,7 @@ use Rattle.alg_typing.specs.declared.sorts.Standing.{Standing}
 use Rattle.alg_typing.specs.Checks.{IsCheckOf}
 use Rattle.alg_typing.specs.Faults.{earlier_of, fault_if, first_of}
 use Rattle.alg_typing.specs.Resolved.{number_at}
-use Rattle.alg_typing.specs.SortFaults.{Sorted, differ, is_field, operator, quotient, sorted, node_sorted}
+use Rattle.alg_typing.specs.TermSorts.{Sorted, differ, is_field, operator, quotient, sorted, node_sorted}
 use Rattle.alg_typing.proofs.Firsts.{first_of-append, earlier_of-assoc}
 use Rattle.alg_typing.proofs.RawBuilt.{fold_under-Add, fold_under-Sub, fold_under-Mul, fold_under-Div, fold_under-Hom}
 use Rattle.alg_typing.proofs.RawParts.{Joins}

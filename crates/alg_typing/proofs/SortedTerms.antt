@@ -15,7 +15,7 @@ use Rattle.alg_reader.specs.declared.raw.RawNode.{RawNode, more_of-RawTerm, Var,
 use Rattle.alg_reader.specs.declared.raw.RawNumber.{RawNumber}
 use Rattle.alg_reader.specs.RawTerms.{fold_under, of_parts, literals_of_node}
 use Rattle.alg_typing.specs.Resolved.{number_at}
-use Rattle.alg_typing.specs.SortFaults.{differ, exponent}
+use Rattle.alg_typing.specs.TermSorts.{differ, exponent}
 use Rattle.alg_typing.proofs.NumbersInRange.{parts_empty, no_fault}
 use Rattle.alg_typing.proofs.FreshNames.{recursion_left, recursion_right}
 use Rattle.alg_typing.proofs.Resolving.{agree_if, resolved, sorted_under, own_resolved}

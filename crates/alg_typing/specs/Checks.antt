@@ -5,7 +5,7 @@ use Rattle.alg_reader.specs.declared.raw.RawTerm.{RawTerm}
 use Rattle.alg_typing.specs.declared.sorts.Checked.{Checked}
 use Rattle.alg_typing.specs.declared.sorts.Standing.{Standing}
 use Rattle.alg_typing.specs.Faults.{first_of}
-use Rattle.alg_typing.specs.SortFaults.{sorted}
+use Rattle.alg_typing.specs.TermSorts.{sorted}
 
 -- the term has this own sort, and this first fault where it stands so
 pub record IsCheckOf (file : File) (text : List ℕ) (at : Standing) (t : RawTerm) (checked : Checked) : Type 0 where

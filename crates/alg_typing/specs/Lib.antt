@@ -2,6 +2,7 @@ pub mod Names
 pub mod Faults
 pub mod NameFaults
 pub mod Resolved
+pub mod TermSorts
 pub mod SortFaults
 pub mod Table
 pub mod Additions
@@ -9,6 +10,7 @@ pub mod Checks
 pub mod TermsOf
 pub mod Wanted
 pub mod Reading
+pub mod AnswerTerms
 pub mod Room
 pub mod Ends
 pub mod Laws

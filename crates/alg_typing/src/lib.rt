@@ -5,11 +5,15 @@
 #![tactic(auto)]
 
 mod adding;
+mod answer_terms;
+#[cfg(test)]
+mod answer_tests;
 mod declaration;
 mod faults;
 mod known;
 pub mod laws;
 mod lists;
+mod members;
 mod name_faults;
 mod names;
 mod reading;

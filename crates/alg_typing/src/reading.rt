@@ -39,13 +39,25 @@ fn read_text(alloc: Global, text: &str) -> Result<File, FileEnd>
         (λ end. Tells end (λ fault. Reads text.now 0 no_statements (Err fault))) }
     ensures by_ring { IfOk result (λ file. All IsByRing file.goals) }
 {
+    Ok(read_declared(alloc, text)?.into_file())
+}
+
+/// The file that a text is, with the table of its names, or its first fault.
+#[tactic(none)]
+pub(crate) fn read_declared(alloc: Global, text: &str) -> Result<Declared, FileEnd>
+    requires { length text.now ≤ 16777216 }
+    ensures ok { IfOk result (λ file. Reads text.now 0 no_statements (Ok file)) }
+    ensures refused { IfErr result
+        (λ end. Tells end (λ fault. Reads text.now 0 no_statements (Err fault))) }
+    ensures by_ring { IfOk result (λ file. All IsByRing file.goals) }
+{
     let mut declared = Declared::new(alloc);
     let mut at = 0;
     'statements: loop {
         let raw = read_statement(alloc, text, at, Place::Plain)?;
         if let RawKind::End = raw.kind {
             drop(raw);
-            return Ok(declared.into_file());
+            return Ok(declared);
         }
         at = raw.stop;
         declared.add(alloc, text, raw)?;

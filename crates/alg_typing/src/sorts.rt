@@ -4,7 +4,7 @@ ghost use Rattle.std.specs.Prelude.{◌≡◌, ◌&&◌, not, false, Some, None}
 ghost use Rattle.std.specs.Option.{option_or, option_map_or};
 ghost use Rattle.alg_terms.specs.Members.{kind_of, source_of, target_of, hyp_at};
 ghost use Rattle.alg_typing.specs.Faults.{first_of, fault_if, earlier_of};
-ghost use Rattle.alg_typing.specs.SortFaults.{is_ring, is_field, differ, exponent, is_no_field, quotient, sorted};
+ghost use Rattle.alg_typing.specs.TermSorts.{is_ring, is_field, differ, exponent, is_no_field, quotient, sorted};
 ghost use Rattle.alg_typing.specs.Checks.{IsCheckOf};
 ghost use Rattle.alg_typing.specs.TermsOf.{IsTermOf};
 
