@@ -1,10 +1,12 @@
 #!/usr/bin/env python3
 """Times the built program on goals of growing size and prints a table. It is no test.
 
-Run from anywhere: bench/bench.py [PROGRAM]. The program is crates/alg_cli/out/alg_cli where none
-is named. Each row: what the file has, its bytes, the exit status, seconds, peak memory in MB.
+Run from anywhere: bench/bench.py [--program PROGRAM] [WORD]. With a word only the rows that have it
+in their name are run. The program is crates/alg_cli/out/alg_cli where none is named. Each row: what
+the file has, its bytes, the exit status, seconds, peak memory in MB.
 """
 
+import argparse
 import os
 import resource
 import subprocess
@@ -12,7 +14,7 @@ import sys
 import time
 
 TOP = os.path.dirname(os.path.dirname(os.path.abspath(__file__)))
-PROGRAM = sys.argv[1] if len(sys.argv) > 1 else f"{TOP}/crates/alg_cli/out/alg_cli"
+PROGRAM = f"{TOP}/crates/alg_cli/out/alg_cli"
 SECONDS = 60
 
 
@@ -59,11 +61,11 @@ def under_paths(depth):
     return file_of(names(2), [f"{image} = {pushed[0]}*{pushed[1]} + 1"], head)
 
 
-def run(text):
+def run(program, text):
     before = resource.getrusage(resource.RUSAGE_CHILDREN).ru_maxrss
     start = time.monotonic()
     try:
-        done = subprocess.run([PROGRAM, "prove"], input=text.encode(), stdout=subprocess.DEVNULL, timeout=SECONDS)
+        done = subprocess.run([program, "prove"], input=text.encode(), stdout=subprocess.DEVNULL, timeout=SECONDS)
         status = str(done.returncode)
     except subprocess.TimeoutExpired:
         status = f"over {SECONDS} s"
@@ -73,8 +75,12 @@ def run(text):
 
 
 def main():
-    if not os.path.exists(PROGRAM):
-        print(f"{PROGRAM} is not there: build it by ./alg prove < examples/square.alg", file=sys.stderr)
+    parser = argparse.ArgumentParser(description="Times the built program on goals of growing size.")
+    parser.add_argument("--program", default=PROGRAM)
+    parser.add_argument("word", nargs="?", default="", help="run only the rows with it in their name")
+    given = parser.parse_args()
+    if not os.path.exists(given.program):
+        print(f"{given.program} is not there: build it by ./alg prove < examples/square.alg", file=sys.stderr)
         return 1
     rows = [
         ("1 MB of short statements", short_statements(1_000_000)),
@@ -86,7 +92,9 @@ def main():
     rows += [(f"product of {count} unknowns, both ways round", product(count)) for count in (8, 10, 12, 14, 16)]
     print(f"{'what':44} {'bytes':>8} {'status':>9} {'seconds':>8} {'peak MB':>8}")
     for what, text in rows:
-        status, seconds, peak = run(text)
+        if given.word not in what:
+            continue
+        status, seconds, peak = run(given.program, text)
         print(f"{what:44} {len(text):8} {status:>9} {seconds:8.2f} {peak:8.0f}", flush=True)
     return 0
 

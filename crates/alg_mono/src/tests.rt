@@ -95,3 +95,14 @@ fn degree_1000_is_the_last(rt: HostRuntime) -> Result<(), Fail> {
     }
     Ok(())
 }
+
+#[test]
+fn the_laws_are_called() {
+    laws::polynomials_are_maps();
+    laws::polynomials_are_a_ring();
+    laws::no_zero_divisors();
+    laws::grevlex_is_its_words();
+    laws::division_is_by_products();
+    laws::lcm_is_least();
+    laws::outcomes_say();
+}

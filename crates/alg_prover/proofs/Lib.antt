@@ -1,3 +1,4 @@
 pub mod Answered
 pub mod Printing
+pub mod Trial
 pub mod Verdicts

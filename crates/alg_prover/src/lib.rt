@@ -6,6 +6,8 @@
 
 mod answering;
 pub mod laws;
+#[cfg(test)]
+mod tests;
 
 pub use alg_terms::NoMemory;
 pub use answering::answers;

@@ -97,126 +97,73 @@ fn the_first_statement_or_fault(rt: HostRuntime) {
     }
 }
 
-/// Each piece as often as it says, one after the other.
-fn text_of(rt: &HostRuntime, pieces: [(&'static str, u32); 5]) -> Result<String, AllocError> {
+/// A piece of a text, and how often it stands there one after the other.
+type Piece = (&'static str, u32);
+
+/// The goal with this equation by ring.
+fn goal_of(rt: &HostRuntime, equation: &[Piece]) -> Result<String, AllocError> {
     let mut text = String::new(rt.alloc());
-    for (piece, count) in pieces {
-        for _ in 0..count {
-            text.push_str(piece)?;
+    text.push_str("goal ")?;
+    for (piece, count) in equation {
+        for _ in 0..*count {
+            text.push_str(*piece)?;
         }
     }
+    text.push_str(" by ring.")?;
     Ok(text)
 }
 
 #[test]
-fn depth_and_parentheses_at_their_limits(rt: HostRuntime) -> Result<(), AllocError> {
-    // Each row: the pieces of a text with their counts, and what is found.
-    for (pieces, want) in [
+fn at_most_200_parentheses_are_open(rt: HostRuntime) -> Result<(), AllocError> {
+    let rows: [(&[Piece], Found); 4] = [
         (
-            [
-                ("goal ", 1),
-                ("(", 200),
-                ("x", 1),
-                (")", 200),
-                (" = x by ring.", 1),
-            ],
+            &[("(", 200), ("x", 1), (")", 200), (" = x", 1)],
             Found::Read(0, 419),
         ),
         (
-            [
-                ("goal ", 1),
-                ("(", 201),
-                ("x", 1),
-                (")", 201),
-                (" = x by ring.", 1),
-            ],
+            &[("(", 201), ("x", 1), (")", 201), (" = x", 1)],
             Found::Fault(19, 205),
         ),
-        (
-            [
-                ("goal ", 1),
-                ("(x)", 201),
-                ("", 0),
-                ("", 0),
-                (" = x by ring.", 1),
-            ],
-            Found::Fault(4, 8),
-        ),
-        (
-            [
-                ("goal ", 1),
-                ("(x)*", 201),
-                ("x", 1),
-                ("", 0),
-                (" = x by ring.", 1),
-            ],
-            Found::Read(0, 823),
-        ),
-        // 1,000 and 1,001 times x, and the last `+`
-        (
-            [
-                ("goal ", 1),
-                ("x+", 999),
-                ("x", 1),
-                ("", 0),
-                (" = x by ring.", 1),
-            ],
-            Found::Read(0, 2_017),
-        ),
-        (
-            [
-                ("goal ", 1),
-                ("x+", 1_000),
-                ("x", 1),
-                ("", 0),
-                (" = x by ring.", 1),
-            ],
-            Found::Deep(2_004),
-        ),
-        // 999, 1,000 and 1,200 times `-`, where the first too deep node is the 1,000th from the right
-        (
-            [
-                ("goal x = ", 1),
-                ("-", 999),
-                ("x", 1),
-                ("", 0),
-                (" by ring.", 1),
-            ],
-            Found::Read(0, 1_018),
-        ),
-        (
-            [
-                ("goal x = ", 1),
-                ("-", 1_000),
-                ("x", 1),
-                ("", 0),
-                (" by ring.", 1),
-            ],
-            Found::Deep(9),
-        ),
-        (
-            [
-                ("goal ", 1),
-                ("-", 1_200),
-                ("x", 1),
-                ("", 0),
-                (" = x by ring.", 1),
-            ],
-            Found::Deep(205),
-        ),
+        // one open at a time
+        (&[("(x)", 201), (" = x", 1)], Found::Fault(4, 8)),
+        (&[("(x)*", 201), ("x = x", 1)], Found::Read(0, 823)),
+    ];
+    for (equation, want) in rows {
+        let text = goal_of(&rt, equation)?;
+        assert!(rt; first_found(&rt, text.as_str()) == want, "{text}");
+    }
+    Ok(())
+}
+
+#[test]
+fn sums_are_at_most_1000_deep(rt: HostRuntime) -> Result<(), AllocError> {
+    // 1,000 and 1,001 times x, and the last `+`
+    let rows: [(&[Piece], Found); 2] = [
+        (&[("x+", 999), ("x = x", 1)], Found::Read(0, 2_017)),
+        (&[("x+", 1_000), ("x = x", 1)], Found::Deep(2_004)),
+    ];
+    for (equation, want) in rows {
+        let text = goal_of(&rt, equation)?;
+        assert!(rt; first_found(&rt, text.as_str()) == want, "{text}");
+    }
+    Ok(())
+}
+
+#[test]
+fn opposites_are_at_most_1000_deep(rt: HostRuntime) -> Result<(), AllocError> {
+    let rows: [(&[Piece], Found); 4] = [
+        (&[("x = ", 1), ("-", 999), ("x", 1)], Found::Read(0, 1_018)),
+        (&[("x = ", 1), ("-", 1_000), ("x", 1)], Found::Deep(9)),
+        // the first too deep node in postorder is the 1,000th `-` from the right
+        (&[("-", 1_200), ("x = x", 1)], Found::Deep(205)),
         // the left side before the right one
         (
-            [
-                ("goal ", 1),
-                ("-", 1_000),
-                ("x = ", 1),
-                ("-", 1_000),
-                ("x by ring.", 1),
-            ],
+            &[("-", 1_000), ("x = ", 1), ("-", 1_000), ("x", 1)],
             Found::Deep(5),
         ),
-    ] {
-        let text = text_of(&rt, pieces)?;
+    ];
+    for (equation, want) in rows {
+        let text = goal_of(&rt, equation)?;
         assert!(rt; first_found(&rt, text.as_str()) == want, "{text}");
     }
     Ok(())

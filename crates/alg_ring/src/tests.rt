@@ -5,8 +5,10 @@ ghost use Rattle.alg_terms.specs.GoalRules.{IsEquation, DividesNowhere};
 ghost use Rattle.alg_terms.specs.declared.limits.TheConstants.{MAX_EXPONENT};
 ghost use Rattle.alg_reify.specs.Tried.{tried};
 
+use crate::laws::proved_is_right;
 use crate::{NoMemory, RingAnswer, Stop, decide_ring};
 use alg_terms::{Equation, File, Kind, Name, Seq, Sort, Statement, Term, VarDecl};
+use alg_universe::Rats;
 use sqlite_items::Boxed;
 use std::alloc::Global;
 use std::test::Fail;
@@ -101,4 +103,9 @@ fn an_equation_is_proved_or_refuted_within_the_limits(rt: HostRuntime) -> Result
         assert_eq!(rt; answer.map(told), want, "k {k}, n {n}, c {c}, d {d}");
     }
     Ok(())
+}
+
+#[test]
+fn the_law_is_called() {
+    proved_is_right::<Rats>();
 }

@@ -1,5 +1,6 @@
 //! The first token of small texts.
 
+use crate::laws::{cut_from_anywhere, cut_goes_on, one_cutting, one_next};
 use crate::{Refusal, Sign, Token, TokenKind, Word, next_token};
 
 fn token(kind: TokenKind, start: u32, stop: u32) -> Result<Token, Refusal> {
@@ -77,4 +78,12 @@ fn the_first_token(rt: HostRuntime) {
     ] {
         assert!(rt; first_of(text) == Some(want), "{text}");
     }
+}
+
+#[test]
+fn the_laws_are_called() {
+    one_cutting();
+    one_next();
+    cut_from_anywhere();
+    cut_goes_on();
 }

@@ -1,0 +1,130 @@
+//! A file of two goals, and their answers.
+
+ghost use Rattle.std.specs.Prelude.{◌≡◌, IfOk, pos};
+ghost use Rattle.alg_reify.specs.Tried.{tried};
+ghost use Rattle.alg_prover.specs.Trial.{trial, tried_goal};
+
+use crate::laws::{no_differs, one_answer, proved_is_right};
+use crate::{NoMemory, answers};
+use alg_lines::Answer;
+use alg_terms::{Equation, File, Goal, Kind, Method, Name, Seq, Sort, Statement, Term, VarDecl};
+use alg_universe::Rats;
+use sqlite_items::Boxed;
+use std::alloc::Global;
+use std::test::Fail;
+
+// (3*x)^2*x + c
+fn side(alloc: Global, c: u64) -> Result<Term, NoMemory>
+    ensures { IfOk result (λ term. term ≡ tried (pos 3) 2 (pos c)) }
+{
+    let base = Term::Mul(
+        Boxed::new(alloc, Term::Int(3))?,
+        Boxed::new(alloc, Term::Var(0))?,
+    );
+    let power = Term::Pow(Boxed::new(alloc, base)?, 2);
+    let product = Term::Mul(Boxed::new(alloc, power)?, Boxed::new(alloc, Term::Var(0))?);
+    Ok(Term::Add(
+        Boxed::new(alloc, product)?,
+        Boxed::new(alloc, Term::Int(i128::from(c)))?,
+    ))
+}
+
+// (3*x)^2*x + c = (3*x)^2*x + d by ring
+fn goal(alloc: Global, c: u64, d: u64) -> Result<Goal, NoMemory>
+    ensures { IfOk result (λ goal. goal ≡ tried_goal (pos c) (pos d)) }
+{
+    let left = side(alloc, c)?;
+    let right = side(alloc, d)?;
+    Ok(Goal {
+        equation: Equation {
+            sort: 0,
+            left,
+            right,
+        },
+        method: Method::ByRing,
+    })
+}
+
+fn goals(alloc: Global) -> Result<Seq<Goal>, NoMemory>
+    ensures { IfOk result (λ goals. goals ≡ trial.goals) }
+{
+    let mut goals = Seq::from_vec(Vec::new(alloc));
+    goals.push(goal(alloc, 5, 5)?)?;
+    goals.push(goal(alloc, 5, 6)?)?;
+    Ok(goals)
+}
+
+fn sorts(alloc: Global) -> Result<Seq<Sort>, NoMemory>
+    ensures { IfOk result (λ sorts. sorts ≡ trial.sorts) }
+{
+    let mut sorts = Seq::from_vec(Vec::new(alloc));
+    sorts.push(Sort {
+        name: Name::new(alloc, "_")?,
+        kind: Kind::Ring,
+        char0: false,
+    })?;
+    Ok(sorts)
+}
+
+fn vars(alloc: Global) -> Result<Seq<VarDecl>, NoMemory>
+    ensures { IfOk result (λ vars. vars ≡ trial.vars) }
+{
+    let mut vars = Seq::from_vec(Vec::new(alloc));
+    vars.push(VarDecl {
+        name: Name::new(alloc, "_'")?,
+        sort: 0,
+    })?;
+    Ok(vars)
+}
+
+fn order(alloc: Global) -> Result<Seq<Statement>, NoMemory>
+    ensures { IfOk result (λ order. order ≡ trial.order) }
+{
+    let mut order = Seq::from_vec(Vec::new(alloc));
+    order.push(Statement::Sort(0))?;
+    order.push(Statement::Vars { first: 0, count: 1 })?;
+    order.push(Statement::Goal(0))?;
+    order.push(Statement::Goal(1))?;
+    Ok(order)
+}
+
+fn tried_file(alloc: Global) -> Result<File, NoMemory>
+    ensures { IfOk result (λ file. file ≡ trial) }
+{
+    let sorts = sorts(alloc)?;
+    let vars = vars(alloc)?;
+    let goals = goals(alloc)?;
+    let order = order(alloc)?;
+    Ok(File {
+        sorts,
+        homs: Seq::from_vec(Vec::new(alloc)),
+        vars,
+        hyps: Seq::from_vec(Vec::new(alloc)),
+        goals,
+        order,
+    })
+}
+
+#[test]
+fn each_goal_has_its_own_answer(rt: HostRuntime) -> Result<(), Fail> {
+    let file = tried_file(rt.alloc())?;
+    let answers = answers(rt.alloc(), &file)?;
+    match answers.as_slice() {
+        [
+            Answer::Proved { conditions },
+            Answer::No { at, left, right },
+        ] => {
+            assert!(rt; conditions.items().is_empty(), "without conditions");
+            assert_eq!(rt; (at.degree(), *left, *right), (0, 5, 6));
+        }
+        _ => panic!(rt; "{answers:?}"),
+    }
+    Ok(())
+}
+
+#[test]
+fn the_laws_are_called() {
+    one_answer();
+    proved_is_right::<Rats>();
+    no_differs();
+}
