@@ -40,7 +40,8 @@ proved_right u proved certified file answers valid h = record {
 }
 
 -- and where they are no, the sides differ
-pub noes_differ : prover.NoDiffers → (file : File) (answers : List Answer) → AreAnswers file answers → NoesDiffer file answers
+pub noes_differ : prover.NoDiffers → (file : File) (answers : List Answer) → AreAnswers file answers →
+    NoesDiffer file answers
 noes_differ law file answers h = λ i at left right there by_ring.
     let (low, answer) = pair_at file file.goals answers i (No at left right) h there in
     law file i at left right by_ring answer
@@ -51,7 +52,8 @@ ok_weaker P Q (Ok x) f h = f x h
 ok_weaker P Q (Err e) f h = tt
 
 -- the file's text with its answers is the reply to the bytes that read as the file
-pub answered_reply : {E : Type 0} (u : Ghosts E) → prover.ProvedIsRight u → prover.CertifiedIsRight u → prover.NoDiffers →
+pub answered_reply : {E : Type 0} (u : Ghosts E) → prover.ProvedIsRight u → prover.CertifiedIsRight u →
+    prover.NoDiffers →
     (bytes : List ℕ) (file : File) (text : List ℕ) (status : Status) → length bytes ≤ most_bytes →
     IsReadingOf bytes (Ok file) → IsValid file → IsFileReply file text status → IsReplyTo u bytes text status
 answered_reply u proved certified differ bytes file text status low reads valid reply =

@@ -43,7 +43,8 @@ equation_by e sort left right p q r =
     ∙ ap (λ t. record { sort = e.sort; left = e.left; right = t }) r
 
 -- an equation that comes back: its names and its sorts have no faults
-pub record IsEquationBack (g : File) (text : List ℕ) (may_divide : Bool) (e : Equation) (raw : RawEquation) : Type 0 where
+pub record IsEquationBack (g : File) (text : List ℕ) (may_divide : Bool) (e : Equation)
+    (raw : RawEquation) : Type 0 where
   pub names : equation_names g text raw ≡ []
   pub sorts : equation_sorts g text may_divide raw ≡ []
   pub equation : equation_of g text raw ≡ e

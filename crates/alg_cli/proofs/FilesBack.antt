@@ -118,7 +118,8 @@ module _ (law : CutFromAnywhere) (file : File) (valid : IsValid file) (few : Ope
       HasFewOpen 0 (tokens_of at (pieces_of s))
   tokens_few s at is low =
       let rest = spell (line_feed ∷ []) in
-      let even = even_standing (pieces_of s) (10 ∷ []) (stand_statement file s valid is (10 ∷ []) (10, [], refl, refl)) in
+      let even = even_standing (pieces_of s) (10 ∷ [])
+      (stand_statement file s valid is (10 ∷ []) (10, [], refl, refl)) in
       let whole : most_open 0 (spell (pieces_of s) ++ rest) ≡ most_open 0 (statement_text file [] s) =
       ap (most_open 0) (sym (spell_append (pieces_of s) (line_feed ∷ [])) ∙ spelled_statement file s is) in
       few_open 0 at (pieces_of s) rest even (omega (arith, whole, low))

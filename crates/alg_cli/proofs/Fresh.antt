@@ -142,12 +142,14 @@ module _ (file : File) (valid : IsValid file) (before : List Statement) where
       let name = (hyp_at file k).name in
       let there = name_at (λ hyp. hyp.name) file.hyps k no_hyp low in
       let inside : k < length hyps = omega (arith, length-map file.hyps (λ hyp. hyp.name)) in
-      let own = new_prefix (λ hyp. hyp.name) file.hyps k no_hyp (distinct_right ((sorts ++ homs) ++ vars) hyps all) low in
+      let own = new_prefix (λ hyp. hyp.name) file.hyps k no_hyp (distinct_right ((sorts ++ homs) ++ vars) hyps all)
+      low in
       let P : Name → Type 0 = λ other. name ≢ other in
       let to_three = subst (λ n. IsNew n ((sorts ++ homs) ++ vars)) there
       (apart_at ((sorts ++ homs) ++ vars) hyps k [] (distinct_apart ((sorts ++ homs) ++ vars) hyps all) inside) in
       let to_two = recursion_left P (sorts ++ homs) vars to_three in
-      new_to_front name (new_take (λ sort. sort.name) name file.sorts (sorts_in before) (recursion_left P sorts homs to_two))
+      new_to_front name (new_take (λ sort. sort.name) name file.sorts (sorts_in before)
+      (recursion_left P sorts homs to_two))
       (new_take (λ hom. hom.name) name file.homs (homs_in before) (recursion_right P sorts homs to_two))
       (new_take (λ var. var.name) name file.vars (vars_in before) (recursion_right P (sorts ++ homs) vars to_three))
       (subst (λ n. IsNew name (map (λ hyp. hyp.name) (take n file.hyps))) here own)

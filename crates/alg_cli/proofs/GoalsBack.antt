@@ -79,7 +79,8 @@ module _ (file : File) (valid : IsValid file) (before after : List Statement) (i
       let s = statement.Goal i in
       let used = valid.ordered.earlier before after s split in
       equation_low file valid before after s split e used.vars
-      (all_left (Contains (declared_by_all before).homs) (homs_in e) (flat_map (λ used. used.path) (uses_of goal.method)) used.homs)
+      (all_left (Contains (declared_by_all before).homs) (homs_in e)
+      (flat_map (λ used. used.path) (uses_of goal.method)) used.homs)
 
   uses_range : All (IsUseInRange g) (uses_of goal.method)
   uses_range =
@@ -88,7 +89,8 @@ module _ (file : File) (valid : IsValid file) (before after : List Statement) (i
       let homs = flat_map (λ used. used.path) (uses_of goal.method) in
       uses_in_range g (uses_of goal.method)
       (hyps_low file valid before after s split (map (λ used. used.hyp) (uses_of goal.method)) used.hyps)
-      (homs_low file valid before after s split homs (all_right (Contains (declared_by_all before).homs) (homs_in e) homs used.homs))
+      (homs_low file valid before after s split homs
+      (all_right (Contains (declared_by_all before).homs) (homs_in e) homs used.homs))
 
   sort_is_low : e.sort < length g.sorts
   sort_is_low = sort_low file valid before after e rules.equation range closed
@@ -146,5 +148,6 @@ module _ (file : File) (valid : IsValid file) (before after : List Statement) (i
         sorts = sorts_taken g text e m (sides.raw at) raw_method method_at (may_divide_back file g text method_at m)
             equation method;
         extends = goal_added _
-            (goal_by goal (equation_of g text (sides.raw at)) (method_of g text raw_method) equation.equation method.back);
+            (goal_by goal (equation_of g text (sides.raw at)) (method_of g text raw_method) equation.equation
+            method.back);
       }

@@ -79,7 +79,8 @@ module _ (file : File) (valid : IsValid file) (before after : List Statement) (h
       (placed_left text at sides.to_right (sides.right ++ dot) placed)) in
       let named = placed_right text at word_pieces (name hyp.name ∷ colon) to_left in
       let own = span (at + width word_pieces) hyp.name in
-      let bytes : bytes_at text own ≡ hyp.name = span_bytes text (at + width word_pieces) kinds.Name hyp.name colon named in
+      let bytes : bytes_at text own ≡ hyp.name = span_bytes text (at + width word_pieces) kinds.Name hyp.name colon
+      named in
       let back = equation_back file g text distinct (grows file before) false e is.equation range
       (plain_divides g false e.left e.sort [] is.divides_nowhere.0)
       (plain_divides g false e.right e.sort [] is.divides_nowhere.1) hyp.nonzero first dot at placed in

@@ -40,7 +40,8 @@ module _ (law : CutFromAnywhere) (file : File) (valid : IsValid file) (few : Ope
   read_there before after s split =
       let is = statement_of file valid before after s split in
       let start = begin law file valid few before in
-      statement_read file valid today s is (spelled_statement file s is) (few_there law file valid few before after s split)
+      statement_read file valid today s is (spelled_statement file s is)
+      (few_there law file valid few before after s split)
       bytes (at_place before) start (start + width (pieces_of law file valid few s))
       (statement_tokens law file valid before after s split)
 

@@ -29,7 +29,8 @@ wrote_all IsText WriteFault w text after is all = absurd after
 wrote_all IsText NoMemory w text after is all = absurd after
 
 -- what was written is the text of the run
-pub wrote : (IsText : List ℕ → Status → Type 0) (planned result : Status) (w : Written) (text : List ℕ) (Rose : Type 0) →
+pub wrote : (IsText : List ℕ → Status → Type 0) (planned result : Status) (w : Written) (text : List ℕ)
+    (Rose : Type 0) →
     IsAfterAll planned → IsText text planned → WroteOrFailed planned result w text Rose → Wrote IsText result w
 wrote IsText planned result w text Rose after is (inl (same, all)) =
     subst (λ s. Wrote IsText s w) (sym same) (wrote_all IsText planned w text after is all)
@@ -83,7 +84,8 @@ module _ {E : Type 0} (u : Ghosts E) where
       let same = law bytes (Err one.fault) (Ok two.file) one.reads two.reads in cc
 
   -- an input has one reply
-  pub one_reply : OneReading → OneAnswer → (bytes text other : List ℕ) (status planned : Status) → IsReplyTo u bytes text status →
+  pub one_reply : OneReading → OneAnswer → (bytes text other : List ℕ) (status planned : Status) →
+      IsReplyTo u bytes text status →
       IsReplyTo u bytes other planned → IsSame text other status planned
   one_reply law determined bytes text other status planned (inl one) (inl two) =
       record { same_text = one.writes ∙ sym two.writes; same_status = one.ends ∙ sym two.ends }
@@ -124,7 +126,8 @@ if_told None P Q f h = tt
 if_told (Some told) P Q f h = f told h
 
 -- the usage is the reply to other words, the refusal of large input that to too many bytes
-pub usage_reply : {E : Type 0} (u : Ghosts E) (words : List (String Global)) (left : Option (List ℕ)) → ¬ IsProve words →
+pub usage_reply : {E : Type 0} (u : Ghosts E) (words : List (String Global)) (left : Option (List ℕ)) →
+    ¬ IsProve words →
     IsReply u words left (codes "usage\n") Usage
 usage_reply u words left other = record {
   usage = λ _. (refl, refl);

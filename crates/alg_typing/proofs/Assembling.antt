@@ -47,12 +47,18 @@ pub record IsFit (old new : File) (more : Further old new) (s : Statement) : Typ
 module _ (old new : File) (more : Further old new) (s : Statement) where
   counts : (n : ℕ) → HasRoomFor old new more n → new.order ≡ old.order ++ s ∷ [] → HasCounts new
   counts n room order = record {
-    sorts = subst (λ xs. length xs < 2 ^ 32) (sym more.with_sorts) (count_with old.sorts more.sorts n (2 ^ 32) room.sorts.0 room.sorts.1);
-    homs = subst (λ xs. length xs < 2 ^ 32) (sym more.with_homs) (count_with old.homs more.homs n (2 ^ 32) room.homs.0 room.homs.1);
-    vars = subst (λ xs. length xs < 2 ^ 32) (sym more.with_vars) (count_with old.vars more.vars n (2 ^ 32) room.vars.0 room.vars.1);
-    hyps = subst (λ xs. length xs < 2 ^ 32) (sym more.with_hyps) (count_with old.hyps more.hyps n (2 ^ 32) room.hyps.0 room.hyps.1);
-    goals = subst (λ xs. length xs < 2 ^ 32) (sym more.with_goals) (count_with old.goals more.goals n (2 ^ 32) room.goals.0 room.goals.1);
-    order = subst (λ xs. length xs < 2 ^ 32) (sym order) (count_with old.order (s ∷ []) n (2 ^ 32) room.some room.order);
+    sorts = subst (λ xs. length xs < 2 ^ 32) (sym more.with_sorts)
+        (count_with old.sorts more.sorts n (2 ^ 32) room.sorts.0 room.sorts.1);
+    homs = subst (λ xs. length xs < 2 ^ 32) (sym more.with_homs)
+        (count_with old.homs more.homs n (2 ^ 32) room.homs.0 room.homs.1);
+    vars = subst (λ xs. length xs < 2 ^ 32) (sym more.with_vars)
+        (count_with old.vars more.vars n (2 ^ 32) room.vars.0 room.vars.1);
+    hyps = subst (λ xs. length xs < 2 ^ 32) (sym more.with_hyps)
+        (count_with old.hyps more.hyps n (2 ^ 32) room.hyps.0 room.hyps.1);
+    goals = subst (λ xs. length xs < 2 ^ 32) (sym more.with_goals)
+        (count_with old.goals more.goals n (2 ^ 32) room.goals.0 room.goals.1);
+    order = subst (λ xs. length xs < 2 ^ 32) (sym order)
+        (count_with old.order (s ∷ []) n (2 ^ 32) room.some room.order);
   }
 
   -- the numbers of one list's members with the further ones

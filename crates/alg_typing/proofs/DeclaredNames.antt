@@ -90,7 +90,8 @@ apart_at (x ∷ names) others k d h low =
 -- what is found among sorts, morphisms, variables and hypotheses, by the place in each list
 abbrev pub declaration_of : Option ℕ → Option ℕ → Option ℕ → Option ℕ → Option Declaration
 declaration_of sort hom var hyp =
-    option_or (option_map Sort sort) (option_or (option_map Hom hom) (option_or (option_map Var var) (option_map Hyp hyp)))
+    option_or (option_map Sort sort)
+    (option_or (option_map Hom hom) (option_or (option_map Var var) (option_map Hyp hyp)))
 
 module _ (g : File) where
   abbrev sorts : List Name
@@ -106,7 +107,8 @@ module _ (g : File) where
   hyps = map (λ hyp. hyp.name) g.hyps
 
   places : (name : Name) (a b c d : Option ℕ) → position (bytes_eq name) sorts ≡ a → position (bytes_eq name) homs ≡ b →
-      position (bytes_eq name) vars ≡ c → position (bytes_eq name) hyps ≡ d → declared_as g name ≡ declaration_of a b c d
+      position (bytes_eq name) vars ≡ c → position (bytes_eq name) hyps ≡ d →
+      declared_as g name ≡ declaration_of a b c d
   places name a b c d p q r s =
       let b' = position (bytes_eq name) homs in
       let c' = position (bytes_eq name) vars in
@@ -121,7 +123,8 @@ module _ (g : File) where
       let three = recursion_left P ((sorts ++ homs) ++ vars) hyps h in
       let two = recursion_left P (sorts ++ homs) vars three in
       places name None None None None (not_found name sorts (recursion_left P sorts homs two))
-      (not_found name homs (recursion_right P sorts homs two)) (not_found name vars (recursion_right P (sorts ++ homs) vars three))
+      (not_found name homs (recursion_right P sorts homs two))
+      (not_found name vars (recursion_right P (sorts ++ homs) vars three))
       (not_found name hyps (recursion_right P ((sorts ++ homs) ++ vars) hyps h))
 
   module _ (distinct : AreDistinct (names_of g)) where
@@ -135,7 +138,8 @@ module _ (g : File) where
     pub declared_sort : (k : ℕ) → k < length g.sorts → declared_as g (sort_at g k).name ≡ Some (Sort k)
     declared_sort k low =
         let here = name_at (λ sort. sort.name) g.sorts k no_sort low in
-        let place = found_at sorts k [] (distinct_left sorts homs two) (omega (arith, length-map g.sorts (λ sort. sort.name))) in
+        let place = found_at sorts k [] (distinct_left sorts homs two)
+        (omega (arith, length-map g.sorts (λ sort. sort.name))) in
         let found = subst (λ n. position (bytes_eq n) sorts ≡ Some k) here place in
         places (sort_at g k).name (Some k) _ _ _ found refl refl refl
 

@@ -106,9 +106,10 @@ module _ (file : File) (text : List ℕ) (valid : IsValid file) where
       })
       (record {
         named = named file new
-            (((map (λ sort. sort.name) file.sorts ++ map (λ hom. hom.name) file.homs) ++ map (λ var. var.name) file.vars)
-            ++ map (λ hyp. hyp.name) file.hyps) (bytes ∷ []) [] valid (sym (append-nil _))
-            (simp (map-append, append_assoc)) (All-cons IsName bytes [] well.0.name (All-nil IsName)) (tt, tt) (free, tt);
+            (((map (λ sort. sort.name) file.sorts ++ map (λ hom. hom.name) file.homs)
+            ++ map (λ var. var.name) file.vars) ++ map (λ hyp. hyp.name) file.hyps) (bytes ∷ []) [] valid (sym (append-nil _))
+            (simp (map-append, append_assoc)) (All-cons IsName bytes [] well.0.name (All-nil IsName)) (tt, tt)
+            (free, tt);
         sorts = All-nil IsSort;
         homs = All-nil (IsHom new);
         vars = All-nil (IsVar new);
@@ -117,7 +118,8 @@ module _ (file : File) (text : List ℕ) (valid : IsValid file) where
         order = refl;
         declares = refl;
         one_sorted = tt;
-        among = subst (λ h. AreAmong (of_hyp h) (members_of file)) (sym (last_at file.hyps hyp no_hyp)) (hyp_among hyp fits);
+        among = subst (λ h. AreAmong (of_hyp h) (members_of file)) (sym (last_at file.hyps hyp no_hyp))
+            (hyp_among hyp fits);
       })
 
   -- the uses of a goal of the file are uses of its sort
@@ -135,8 +137,10 @@ module _ (file : File) (text : List ℕ) (valid : IsValid file) where
         homs = among_numbers (length file.homs) (homs_in goal.equation ++ flat_map (λ used. used.path) uses)
             (All-append (λ f. f < length file.homs) (homs_in goal.equation) (flat_map (λ used. used.path) uses)
             (homs_of_equation file goal.equation h.equation) (homs_of_uses file goal.equation.sort uses each));
-        vars = among_numbers (length file.vars) (vars_in goal.equation) (vars_of_equation file goal.equation h.equation);
-        hyps = among_numbers (length file.hyps) (map (λ used. used.hyp) uses) (hyps_of_uses file goal.equation.sort uses each);
+        vars = among_numbers (length file.vars) (vars_in goal.equation)
+            (vars_of_equation file goal.equation h.equation);
+        hyps = among_numbers (length file.hyps) (map (λ used. used.hyp) uses)
+            (hyps_of_uses file goal.equation.sort uses each);
       }
 
   -- a goal's uses are fewer than its members
@@ -147,8 +151,10 @@ module _ (file : File) (text : List ℕ) (valid : IsValid file) where
       let all : 1 + length uses < USES_END = subst P same room.uses in
       omega arith
 
-  extends_goal : (e : RawEquation) (method : RawMethod) (method_at : ℕ) → IsWellKind text (raws.Goal e method method_at) →
-      name_faults file text (raws.Goal e method method_at) ≡ [] → sort_faults file text (raws.Goal e method method_at) ≡ [] →
+  extends_goal : (e : RawEquation) (method : RawMethod) (method_at : ℕ) →
+      IsWellKind text (raws.Goal e method method_at) →
+      name_faults file text (raws.Goal e method method_at) ≡ [] →
+      sort_faults file text (raws.Goal e method method_at) ≡ [] →
       HasRoom file (raws.Goal e method method_at) → IsValid (extended file text (raws.Goal e method method_at))
   extends_goal e method method_at well names sorts room =
       let equation = equation_of file text e in
@@ -175,7 +181,8 @@ module _ (file : File) (text : List ℕ) (valid : IsValid file) where
       let at_sort = subst (λ s. method_sorts file text s method_at method ≡ []) sort own in
       let fits : IsGoal file goal = record {
         equation = rules;
-        method = method_kept file text e method method_at rules further sides at_sort (few_uses e method method_at room);
+        method = method_kept file text e method method_at rules further sides at_sort
+            (few_uses e method method_at room);
       } in
       let one : 1 ≤ members_in (raws.Goal e method method_at) = some_members e method method_at in
       assembled file new more (statement.Goal (length file.goals)) (members_in (raws.Goal e method method_at)) valid
@@ -198,20 +205,25 @@ module _ (file : File) (text : List ℕ) (valid : IsValid file) where
         order = refl;
         declares = refl;
         one_sorted = tt;
-        among = subst (λ g. AreAmong (of_goal g) (members_of file)) (sym (last_at file.goals goal no_goal)) (goal_among goal fits);
+        among = subst (λ g. AreAmong (of_goal g) (members_of file)) (sym (last_at file.goals goal no_goal))
+            (goal_among goal fits);
       })
 
-  extends_kind : (kind : RawKind) → IsWellKind text kind → name_faults file text kind ≡ [] → sort_faults file text kind ≡ [] →
+  extends_kind : (kind : RawKind) → IsWellKind text kind → name_faults file text kind ≡ [] →
+      sort_faults file text kind ≡ [] →
       HasRoom file kind → IsValid (extended file text kind)
   extends_kind raws.End well names sorts room = valid
-  extends_kind (raws.Sort kind name char0) well names sorts room = extends_sort file text valid kind name char0 well names room
+  extends_kind (raws.Sort kind name char0) well names sorts room =
+      extends_sort file text valid kind name char0 well names room
   extends_kind (raws.Hom name from to) well names sorts room = extends_hom file text valid name from to well names room
   extends_kind (raws.Vars spans of) well names sorts room = extends_vars file text valid spans of well names room
   extends_kind (raws.Hyp name e) well names sorts room = extends_hyp name e well names sorts room
-  extends_kind (raws.Goal e method method_at) well names sorts room = extends_goal e method method_at well names sorts room
+  extends_kind (raws.Goal e method method_at) well names sorts room =
+      extends_goal e method method_at well names sorts room
 
 -- a valid file with one more statement, which was read and has no fault, is valid
 pub extended_is_valid : (file : File) (text : List ℕ) (at : ℕ) (raw : Raw) → IsValid file → IsWellRead text at raw →
     HasRoom file raw.kind → first_fault file text raw ≡ None → IsValid (extended file text raw.kind)
 extended_is_valid file text at raw valid well room h =
-    extends_kind file text valid raw.kind well.kind (no_name_faults file text raw h) (no_sort_faults file text raw h) room
+    extends_kind file text valid raw.kind well.kind (no_name_faults file text raw h)
+    (no_sort_faults file text raw h) room

@@ -11,7 +11,7 @@ use Rattle.alg_terms.specs.declared.file.Statement.TheVariants as statement
 use Rattle.alg_terms.specs.GoalRules.{IsHyp, IsGoal}
 use Rattle.alg_terms.specs.Members.{sort_of_var, source_of, target_of, no_hom, no_var}
 use Rattle.alg_terms.specs.Names.{IsName}
-use Rattle.alg_terms.specs.Order.{numbers_from}
+use Rattle.alg_terms.specs.Order.{numbers_from, none}
 use Rattle.alg_terms.specs.Valid.{IsValid, IsSort, IsHom, IsVar}
 use Rattle.alg_reader.specs.declared.raw.RawKind.TheVariants as raws
 use Rattle.alg_reader.specs.declared.raw.Span.{Span}
@@ -64,7 +64,8 @@ module _ (file : File) (text : List ℕ) (valid : IsValid file) where
       (record {
         named = named file new (map (λ sort. sort.name) file.sorts) (bytes ∷ [])
             ((map (λ hom. hom.name) file.homs ++ map (λ var. var.name) file.vars) ++ map (λ hyp. hyp.name) file.hyps)
-            valid (simp append_assoc) (simp (map-append, append_assoc)) (All-cons IsName bytes [] well.0.name (All-nil IsName))
+            valid (simp append_assoc) (simp (map-append, append_assoc))
+            (All-cons IsName bytes [] well.0.name (All-nil IsName))
             (tt, tt) (free, tt);
         sorts = All-cons IsSort sort [] well.1 (All-nil IsSort);
         homs = All-nil (IsHom new);
@@ -123,7 +124,8 @@ module _ (file : File) (text : List ℕ) (valid : IsValid file) where
       (record {
         named = named file new (map (λ sort. sort.name) file.sorts ++ map (λ hom. hom.name) file.homs) (bytes ∷ [])
             (map (λ var. var.name) file.vars ++ map (λ hyp. hyp.name) file.hyps)
-            valid (simp append_assoc) (simp (map-append, append_assoc)) (All-cons IsName bytes [] well.0.name (All-nil IsName))
+            valid (simp append_assoc) (simp (map-append, append_assoc))
+            (All-cons IsName bytes [] well.0.name (All-nil IsName))
             (tt, tt) (free, tt);
         sorts = All-nil IsSort;
         homs = All-cons (IsHom new) hom [] (record { source = low_source; target = low_target }) (All-nil (IsHom new));
@@ -142,7 +144,8 @@ module _ (file : File) (text : List ℕ) (valid : IsValid file) where
       })
 
   -- variables of one sort: their names, their sorts and their rule
-  names_of_vars : (sort : ℕ) (names : List Span) → map (λ var. var.name) (vars_of file text sort names) ≡ map (bytes_at text) names
+  names_of_vars : (sort : ℕ) (names : List Span) →
+      map (λ var. var.name) (vars_of file text sort names) ≡ map (bytes_at text) names
   names_of_vars sort [] = refl
   names_of_vars sort (name ∷ names) = ap (λ rest. bytes_at text name ∷ rest) (names_of_vars sort names)
 
@@ -152,7 +155,8 @@ module _ (file : File) (text : List ℕ) (valid : IsValid file) where
   sort_of_each sort (name ∷ names) zero low = refl
   sort_of_each sort (name ∷ names) (suc k) low = sort_of_each sort names k (omega arith)
 
-  vars_fit : (new : File) (sort : ℕ) → sort < length new.sorts → (names : List Span) → All (IsVar new) (vars_of file text sort names)
+  vars_fit : (new : File) (sort : ℕ) → sort < length new.sorts → (names : List Span) →
+      All (IsVar new) (vars_of file text sort names)
   vars_fit new sort low [] = All-nil (IsVar new)
   vars_fit new sort low (name ∷ names) =
       All-cons (IsVar new) (record { name = bytes_at text name; sort = sort }) (vars_of file text sort names) low
@@ -161,7 +165,8 @@ module _ (file : File) (text : List ℕ) (valid : IsValid file) where
   each_sort : (sort : ℕ) (names : List Span) (k : ℕ) → k < length names →
       (slice_index_or (file.vars ++ vars_of file text sort names) (length file.vars + k) no_var).sort ≡ sort
   each_sort sort names k low =
-      ap (λ var. var.sort) (get_or-append-add file.vars (vars_of file text sort names) k no_var) ∙ sort_of_each sort names k low
+      ap (λ var. var.sort) (get_or-append-add file.vars (vars_of file text sort names) k no_var)
+      ∙ sort_of_each sort names k low
 
   all_sorts : (new : File) (sort first count : ℕ) → ((k : ℕ) → k < count → sort_of_var new (first + k) ≡ sort) →
       sort < length file.sorts → All (λ s. s < length file.sorts) (map (sort_of_var new) (numbers_from first count))
@@ -169,7 +174,8 @@ module _ (file : File) (text : List ℕ) (valid : IsValid file) where
   all_sorts new sort first (suc count) same low =
       let start : first + 0 ≡ first = omega arith in
       let here : sort_of_var new first ≡ sort = subst (λ k. sort_of_var new k ≡ sort) start (same 0 (omega arith)) in
-      All-cons (λ s. s < length file.sorts) (sort_of_var new first) _ (subst (λ s. s < length file.sorts) (sym here) low)
+      All-cons (λ s. s < length file.sorts) (sort_of_var new first) _
+      (subst (λ s. s < length file.sorts) (sym here) low)
       (all_sorts new sort (suc first) count (λ k below.
       let next : first + suc k ≡ suc first + k = omega arith in
       subst (λ n. sort_of_var new n ≡ sort) next (same (suc k) (omega arith))) low)
@@ -223,7 +229,7 @@ module _ (file : File) (text : List ℕ) (valid : IsValid file) where
         hyps = All-nil (IsHyp file);
         goals = All-nil (IsGoal file);
         order = refl;
-        declares = ap (λ count. record { sorts = []; homs = []; vars = numbers_from (length file.vars) count; hyps = []; goals = [] })
+        declares = ap (λ count. record none { vars = numbers_from (length file.vars) count })
             (sym long);
         one_sorted = (well.0, λ k below. each k below ∙ sym first);
         among = record {

@@ -38,12 +38,14 @@ module _ (old new : File) (grows : Grows old new) where
 
   -- each morphism's target that is a field is one still
   pub field_targets : All (IsHom old) old.homs → (above : List ℕ) → All (λ f. f < length old.homs) above →
-      All (λ f. IsField (kind_of old (target_of old f))) above → All (λ f. IsField (kind_of new (target_of new f))) above
+      All (λ f. IsField (kind_of old (target_of old f))) above →
+      All (λ f. IsField (kind_of new (target_of new f))) above
   field_targets homs above range fields = λ k d h.
       let f : ℕ = slice_index_or above k d in
       let here : f < length old.homs = range k d h in
       let target : target_of old f < length old.sorts = (homs f no_hom here).target in
-      subst (λ s. IsField (kind_of new s)) (sym (target_same f here)) (field_same (target_of old f) target (fields k d h))
+      subst (λ s. IsField (kind_of new s)) (sym (target_same f here))
+      (field_same (target_of old f) target (fields k d h))
 
 -- own sorts that are the same agree where these do
 pub agree_same : (a b a' b' : Option ℕ) → a' ≡ a → b' ≡ b → Agree a b → Agree a' b'

@@ -109,15 +109,18 @@ module _ (old new : File) (grows : Grows old new) (valid : IsValid old) where
   leads_same [] from to r h = h
   leads_same (f ∷ path) from to r h =
       let here : f < length old.homs = All-head (λ g. g < length old.homs) f path r in
-      let later = leads_same path from (source_of old f) (All-tail (λ g. g < length old.homs) f path r) h.1 in
-      (target_same old new grows f here ∙ h.0, subst (Leads new path from) (sym (source_same old new grows f here)) later)
+      let later = leads_same path from (source_of old f) (All-tail (λ g. g < length old.homs) f path r) h.1 in (
+        target_same old new grows f here ∙ h.0,
+        subst (Leads new path from) (sym (source_same old new grows f here)) later,
+      )
 
   use_same : (s : ℕ) (used : Use) → IsUse old s used → IsUse new s used
   use_same s used h =
       let there : hyp_at new used.hyp ≡ hyp_at old used.hyp = grows.hyps used.hyp h.hyp in
       let sort : hyp_sort new used ≡ hyp_sort old used = ap (λ hyp. hyp.equation.sort) there in
       let low : hyp_sort old used < length old.sorts =
-      equation_in_range old valid.homs valid.vars (hyp_at old used.hyp).equation (valid.hyps used.hyp no_hyp h.hyp).equation in
+      equation_in_range old valid.homs valid.vars (hyp_at old used.hyp).equation
+      (valid.hyps used.hyp no_hyp h.hyp).equation in
       record {
         hyp = omega (arith, h.hyp, grows.more_hyps);
         path = All-weaker (λ f. f < length old.homs) (λ f. f < length new.homs) (λ f r. omega (arith, grows.more_homs))
@@ -140,7 +143,8 @@ module _ (old new : File) (grows : Grows old new) (valid : IsValid old) where
         right = field_quotients e.right e.sort low rules.right.indices h.right;
       }
   method_same e (ByNsatz uses power limit) rules h = record {
-    domain = subst IsDomain (sym (kind_same old new grows e.sort (equation_in_range old valid.homs valid.vars e rules))) h.domain;
+    domain = subst IsDomain (sym (kind_same old new grows e.sort (equation_in_range old valid.homs valid.vars e rules)))
+        h.domain;
     divides_nowhere = h.divides_nowhere;
     each_use = All-weaker (IsUse old e.sort) (IsUse new e.sort) (use_same e.sort) uses h.each_use;
     few_uses = h.few_uses;

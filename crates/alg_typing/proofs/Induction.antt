@@ -18,7 +18,8 @@ pub record Holds (P : Term → Type 0) : Type 0 where
   pub hom : (f : ℕ) (t : Term) → P t → P (Hom f t)
 
 module _ (P : Term → Type 0) (h : Holds P) where
-  node : {S : Type 0} (term : S → Term) (known : (s : S) → P (term s)) (y : Term-F S) → P (roll-Term (map-Term S Term term y))
+  node : {S : Type 0} (term : S → Term) (known : (s : S) → P (term s)) (y : Term-F S) →
+      P (roll-Term (map-Term S Term term y))
   unfolding roll-Term denote.Hole.Carrier.roll
   node term known (Term-F.Var k) = subst P (rolls-Var k) (h.var k)
   node term known (Term-F.Int n) = subst P (rolls-Int n) (h.int n)

@@ -6,7 +6,8 @@ use Rattle.alg_terms.specs.Valid.{IsValid}
 use Rattle.alg_typing.specs.Table.{Table, IsTableOf}
 
 -- an equal file with an equal table
-pub kept : (file other : File) (table same : Table) → other ≡ file → same ≡ table → IsTableOf file table → IsValid file →
+pub kept : (file other : File) (table same : Table) → other ≡ file → same ≡ table → IsTableOf file table →
+    IsValid file →
     IsTableOf other same × IsValid other
 kept file other table same e t is valid = (
   λ name. ap (λ u. Rattle.alg_typing.specs.Table.find u name) t ∙ is name

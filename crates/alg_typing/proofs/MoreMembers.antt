@@ -71,24 +71,28 @@ numbers_with old more =
     ∙ ap (λ first. numbers_from 0 (length old) ++ numbers_from first (length more)) (zero-add (length old))
 
 -- how many members a list has with further ones
-pub count_with : {X : Type 0} (old more : List X) (n end : ℕ) → length more ≤ n → length old + n < end → length (old ++ more) < end
+pub count_with : {X : Type 0} (old more : List X) (n end : ℕ) → length more ≤ n → length old + n < end →
+    length (old ++ more) < end
 count_with old more n end few room = omega (arith, length-append old more)
 
 -- what each list keeps
 module _ (old new : File) (more : Further old new) (valid : IsValid old) where
   pub homs_kept : All (IsHom new) old.homs
   homs_kept = All-weaker (IsHom old) (IsHom new) (λ hom h.
-      record { source = omega (arith, h.source, (further_grows old new more).more_sorts); target = omega (arith, h.target, (further_grows old new more).more_sorts) })
-      old.homs valid.homs
+      let sorts = (further_grows old new more).more_sorts in
+      record { source = omega (arith, h.source, sorts); target = omega (arith, h.target, sorts) }) old.homs valid.homs
 
   pub vars_kept : All (IsVar new) old.vars
-  vars_kept = All-weaker (IsVar old) (IsVar new) (λ var h. omega (arith, (further_grows old new more).more_sorts)) old.vars valid.vars
+  vars_kept = All-weaker (IsVar old) (IsVar new) (λ var h. omega (arith, (further_grows old new more).more_sorts))
+      old.vars valid.vars
 
   pub hyps_kept : All (IsHyp new) old.hyps
-  hyps_kept = All-weaker (IsHyp old) (IsHyp new) (hyp_same old new (further_grows old new more) valid) old.hyps valid.hyps
+  hyps_kept = All-weaker (IsHyp old) (IsHyp new) (hyp_same old new (further_grows old new more) valid) old.hyps
+      valid.hyps
 
   pub goals_kept : All (IsGoal new) old.goals
-  goals_kept = All-weaker (IsGoal old) (IsGoal new) (goal_same old new (further_grows old new more) valid) old.goals valid.goals
+  goals_kept = All-weaker (IsGoal old) (IsGoal new) (goal_same old new (further_grows old new more) valid) old.goals
+      valid.goals
 
 -- the names of a file with further names among them are names, and distinct
 pub record AreNamed (file : File) : Type 0 where

@@ -32,7 +32,8 @@ some_sort (Some s) h = refl
 module _ (file : File) (text : List ℕ) where
   -- a term whose names and sorts have no faults is one of the file
   pub term_kept : (b : Bool) (t : RawTerm) (final : Option ℕ) (only_fields : Bool) → IsWellTerm text t →
-      term_names file text t ≡ [] → (sorted file text b t).faults final only_fields ≡ [] → IsTerm file (term_of file text t)
+      term_names file text t ≡ [] → (sorted file text b t).faults final only_fields ≡ [] →
+      IsTerm file (term_of file text t)
   term_kept b t final only_fields well names sorts =
       let (exponents, parts, arguments) = rules_kept file text b t.head t.node final only_fields sorts in
       record {
@@ -46,16 +47,19 @@ module _ (file : File) (text : List ℕ) where
       }
 
   -- the sort of the sides before and after they are resolved
-  pub sides_resolved : (b : Bool) (e : RawEquation) → option_or (sorted file text b e.left).own (sorted file text b e.right).own ≡
+  pub sides_resolved : (b : Bool) (e : RawEquation) →
+      option_or (sorted file text b e.left).own (sorted file text b e.right).own ≡
       equation_sort file (term_of file text e.left) (term_of file text e.right)
   sides_resolved b e =
-      or_same _ _ _ _ (own_resolved file text b e.left.head e.left.node) (own_resolved file text b e.right.head e.right.node)
+      or_same _ _ _ _ (own_resolved file text b e.left.head e.left.node)
+      (own_resolved file text b e.right.head e.right.node)
 
   -- the parts of an equation without faults
   record HasNoFaults (b : Bool) (e : RawEquation) : Type 0 where
     left : (sorted file text b e.left).faults (Some (equation_of file text e).sort) true ≡ []
     right : (sorted file text b e.right).faults (Some (equation_of file text e).sort) true ≡ []
-    sort : equation_sort file (term_of file text e.left) (term_of file text e.right) ≡ Some (equation_of file text e).sort
+    sort : equation_sort file (term_of file text e.left) (term_of file text e.right)
+        ≡ Some (equation_of file text e).sort
 
   no_faults : (b : Bool) (e : RawEquation) → equation_sorts file text b e ≡ [] → HasNoFaults b e
   no_faults b e h =
@@ -82,7 +86,8 @@ module _ (file : File) (text : List ℕ) where
       let clear = no_faults b e sorts in
       let (in_left, in_right) = parts_empty (term_names file text e.left) (term_names file text e.right) names in
       let (front, some) = parts_empty _ _ sorts in
-      let (sides, differ) = parts_empty ((sorted file text b e.left).faults _ true ++ (sorted file text b e.right).faults _ true)
+      let (sides, differ) =
+      parts_empty ((sorted file text b e.left).faults _ true ++ (sorted file text b e.right).faults _ true)
       _ front in
       record {
         left = term_kept b e.left _ true well.left in_left clear.left;
@@ -92,7 +97,8 @@ module _ (file : File) (text : List ℕ) where
       }
 
   -- where no quotient may stand, none does
-  pub divides_nowhere : (e : RawEquation) → equation_sorts file text false e ≡ [] → DividesNowhere (equation_of file text e)
+  pub divides_nowhere : (e : RawEquation) → equation_sorts file text false e ≡ [] →
+      DividesNowhere (equation_of file text e)
   divides_nowhere e sorts =
       let clear = no_faults false e sorts in (
         no_quotient file text e.left.head e.left.node _ true clear.left,

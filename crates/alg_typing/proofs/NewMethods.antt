@@ -46,12 +46,14 @@ module _ (file : File) (text : List ℕ) where
       All (λ f. f < length file.homs) (map (number_at file text) path)
   path_in_range [] h = All-nil (λ f. f < length file.homs)
   path_in_range (name ∷ names) h =
-      let (here, later) = parts_empty (used_name file text is_hom name) (flat_map (used_name file text is_hom) names) h in
+      let (here, later) = parts_empty (used_name file text is_hom name) (flat_map (used_name file text is_hom) names)
+      h in
       All-cons (λ f. f < length file.homs) (number_at file text name) (map (number_at file text) names)
       (hom_number file text name here) (path_in_range names later)
 
   -- a path without faults leads from the hypothesis's sort to the sort of the use
-  path_leads : (path : List Span) (hyp to : ℕ) → path_sorts file text path hyp ≡ [] → sort_along file text path hyp ≡ to →
+  path_leads : (path : List Span) (hyp to : ℕ) → path_sorts file text path hyp ≡ [] →
+      sort_along file text path hyp ≡ to →
       Leads file (map (number_at file text) path) (hyp_at file hyp).equation.sort to
   path_leads [] hyp to h end = end
   path_leads (name ∷ names) hyp to h end =
@@ -60,7 +62,8 @@ module _ (file : File) (text : List ℕ) where
       (end, path_leads names hyp _ later (same_if _ _ (not_false same (no_fault (not same) 9 name.start here))))
 
   -- a `<>` under a path is one of a field
-  unequal_in_field : (path : List Span) (hyp : ℕ) → is_bad_unequal file text path hyp ≡ false → (hyp_at file hyp).nonzero ≡ true →
+  unequal_in_field : (path : List Span) (hyp : ℕ) → is_bad_unequal file text path hyp ≡ false →
+      (hyp_at file hyp).nonzero ≡ true →
       map (number_at file text) path ≢ [] → IsField (kind_of file (hyp_at file hyp).equation.sort)
   unequal_in_field [] hyp h unequal some = absurd (some refl)
   unequal_in_field (name ∷ names) hyp h unequal some =
@@ -81,7 +84,8 @@ module _ (file : File) (text : List ℕ) where
       record {
         hyp = hyp_number file text used.hyp named;
         path = path_in_range used.path homs;
-        sorts = path_leads used.path hyp s path (same_if _ _ (not_false other (no_fault (not other) 9 (start_of used) sort)));
+        sorts = path_leads used.path hyp s path
+            (same_if _ _ (not_false other (no_fault (not other) 9 (start_of used) sort)));
         nonzero = unequal_in_field used.path hyp (no_fault bad 15 (start_of used) unequal);
       }
 
@@ -90,7 +94,8 @@ module _ (file : File) (text : List ℕ) where
   uses_kept s [] names sorts = All-nil (IsUse file s)
   uses_kept s (used ∷ uses) names sorts =
       let (here, later) = parts_empty (use_names file text used) (flat_map (use_names file text) uses) names in
-      let (first, further) = parts_empty (use_sorts file text (Some s) used) (flat_map (use_sorts file text (Some s)) uses) sorts in
+      let (first, further) = parts_empty (use_sorts file text (Some s) used)
+      (flat_map (use_sorts file text (Some s)) uses) sorts in
       All-cons (IsUse file s) (use_of file text used) (map (use_of file text) uses) (use_kept s used here first)
       (uses_kept s uses later further)
 
@@ -104,7 +109,11 @@ module _ (file : File) (text : List ℕ) where
   method_kept e methods.Field method_at rules names sorts own room =
       let field = is_field (kind_of file (equation_of file text e).sort) in
       let (left, right) = divides_in_fields file text e sorts in
-      record { field = field_if _ (not_false field (no_fault (not field) 15 method_at own)); left = left; right = right }
+      record {
+        field = field_if _ (not_false field (no_fault (not field) 15 method_at own));
+        left = left;
+        right = right;
+      }
   method_kept e (methods.Nsatz uses power limit) method_at rules names sorts own room =
       let s = (equation_of file text e).sort in
       let (most, limits) = parts_empty _ (option_range 0 MAX_LIMIT limit) own in

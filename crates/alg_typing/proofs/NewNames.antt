@@ -51,7 +51,8 @@ inserted keys key name false h =
     ∙ swap_or (has_name keys name) (bytes_eq name (string_bytes key))
 
 -- a set with one more name
-pub HasNames-insert : (keys : List (String Global)) (key : String Global) (names : List (List ℕ)) → HasNames keys names →
+pub HasNames-insert : (keys : List (String Global)) (key : String Global) (names : List (List ℕ)) →
+    HasNames keys names →
     HasNames (insert_key (λ a b. bytes_eq (string_bytes a) (string_bytes b)) keys key) (string_bytes key ∷ names)
 HasNames-insert keys key names has = λ name.
     inserted keys key name (has_name keys (string_bytes key)) refl

@@ -22,8 +22,10 @@ none_if (Some x) h = absurd (cc)
 apart_if : (name : List ℕ) (others : List (List ℕ)) → list_any (bytes_eq name) others ≡ false → IsNew name others
 apart_if name [] h = tt
 apart_if name (other ∷ others) h =
-    let (here, later) = or_false (bytes_eq name other) (list_any (bytes_eq name) others) h in
-    (λ same. let found : bytes_eq name other ≡ true = (bytes_eq-Decides name other).1 same in cc, apart_if name others later)
+    let (here, later) = or_false (bytes_eq name other) (list_any (bytes_eq name) others) h in (
+      λ same. let found : bytes_eq name other ≡ true = (bytes_eq-Decides name other).1 same in cc,
+      apart_if name others later,
+    )
 
 module _ (file : File) (text : List ℕ) where
   -- the name is new to the file and to the names before it

@@ -86,7 +86,8 @@ module _ (file : File) (text : List ℕ) where
   abbrev HasNumber : (ℕ → Type 0) → Option Declaration → Type 0
   HasNumber InRange declared = InRange (option_map_or number_of declared 0)
 
-  wanted_sort : (at : ℕ) (name : List ℕ) (d : Option Declaration) → declared_as file name ≡ d → misuse file text is_sort at d ≡ [] →
+  wanted_sort : (at : ℕ) (name : List ℕ) (d : Option Declaration) → declared_as file name ≡ d →
+      misuse file text is_sort at d ≡ [] →
       HasNumber (λ s. s < length file.sorts) d
   wanted_sort at name None e h = absurd (cc)
   wanted_sort at name (Some (Sort n)) e h = sort_in_file file name n e
@@ -94,7 +95,8 @@ module _ (file : File) (text : List ℕ) where
   wanted_sort at name (Some (Var n)) e h = absurd (cc)
   wanted_sort at name (Some (Hyp n)) e h = absurd (cc)
 
-  wanted_hom : (at : ℕ) (name : List ℕ) (d : Option Declaration) → declared_as file name ≡ d → misuse file text is_hom at d ≡ [] →
+  wanted_hom : (at : ℕ) (name : List ℕ) (d : Option Declaration) → declared_as file name ≡ d →
+      misuse file text is_hom at d ≡ [] →
       HasNumber (λ f. f < length file.homs) d
   wanted_hom at name None e h = absurd (cc)
   wanted_hom at name (Some (Sort n)) e h = absurd (cc)
@@ -102,7 +104,8 @@ module _ (file : File) (text : List ℕ) where
   wanted_hom at name (Some (Var n)) e h = absurd (cc)
   wanted_hom at name (Some (Hyp n)) e h = absurd (cc)
 
-  wanted_var : (at : ℕ) (name : List ℕ) (d : Option Declaration) → declared_as file name ≡ d → misuse file text is_var at d ≡ [] →
+  wanted_var : (at : ℕ) (name : List ℕ) (d : Option Declaration) → declared_as file name ≡ d →
+      misuse file text is_var at d ≡ [] →
       HasNumber (λ k. k < length file.vars) d
   wanted_var at name None e h = absurd (cc)
   wanted_var at name (Some (Sort n)) e h = absurd (cc)
@@ -110,7 +113,8 @@ module _ (file : File) (text : List ℕ) where
   wanted_var at name (Some (Var n)) e h = var_in_file file name n e
   wanted_var at name (Some (Hyp n)) e h = absurd (cc)
 
-  wanted_hyp : (at : ℕ) (name : List ℕ) (d : Option Declaration) → declared_as file name ≡ d → misuse file text is_hyp at d ≡ [] →
+  wanted_hyp : (at : ℕ) (name : List ℕ) (d : Option Declaration) → declared_as file name ≡ d →
+      misuse file text is_hyp at d ≡ [] →
       HasNumber (λ k. k < length file.hyps) d
   wanted_hyp at name None e h = absurd (cc)
   wanted_hyp at name (Some (Sort n)) e h = absurd (cc)

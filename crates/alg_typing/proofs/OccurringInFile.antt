@@ -21,7 +21,8 @@ number_among first (suc count) (suc k) low =
     let same : first + suc k ≡ suc first + k = omega arith in
     subst (Contains (numbers_from first (suc count))) (sym same) (suc i, omega arith, here)
 
-pub among_numbers : (count : ℕ) (numbers : List ℕ) → All (λ k. k < count) numbers → All (Contains (numbers_from 0 count)) numbers
+pub among_numbers : (count : ℕ) (numbers : List ℕ) → All (λ k. k < count) numbers →
+    All (Contains (numbers_from 0 count)) numbers
 among_numbers count numbers h =
     All-weaker (λ k. k < count) (Contains (numbers_from 0 count))
     (λ k low. subst (Contains (numbers_from 0 count)) (zero-add k) (number_among 0 count k low)) numbers h
@@ -64,11 +65,13 @@ module _ (file : File) where
 
   pub vars_of_equation : (e : Equation) → IsEquation file e → All (λ k. k < length file.vars) (vars_in e)
   vars_of_equation e h =
-      All-append (λ k. k < length file.vars) _ _ (vars_of_term e.left h.left.indices) (vars_of_term e.right h.right.indices)
+      All-append (λ k. k < length file.vars) _ _ (vars_of_term e.left h.left.indices)
+      (vars_of_term e.right h.right.indices)
 
   pub homs_of_equation : (e : Equation) → IsEquation file e → All (λ f. f < length file.homs) (homs_in e)
   homs_of_equation e h =
-      All-append (λ f. f < length file.homs) _ _ (homs_of_term e.left h.left.indices) (homs_of_term e.right h.right.indices)
+      All-append (λ f. f < length file.homs) _ _ (homs_of_term e.left h.left.indices)
+      (homs_of_term e.right h.right.indices)
 
   -- the morphisms and the hypotheses of uses are of the file
   pub homs_of_uses : (s : ℕ) (uses : List Use) → All (IsUse file s) uses →

@@ -43,7 +43,8 @@ and_true false b h = absurd (cc)
 module _ (file : File) (text : List ℕ) where
   -- where no quotient may stand, none does
   pub no_quotient : (head : ℕ) (node : RawNode) (final : Option ℕ) (in_fields : Bool) →
-      (sorted_under file text false head node).faults final in_fields ≡ [] → EachNode IsNoQuotient (resolved file text head node)
+      (sorted_under file text false head node).faults final in_fields ≡ [] →
+      EachNode IsNoQuotient (resolved file text head node)
   unfolding fold_under EachNode
       Rattle.alg_terms.specs.declared.term.Term.TheBlock.hidden-the_row-Term-0 denote.Hole.Carrier.hidden
   no_quotient head (Var name) final in_fields h = tt

@@ -17,31 +17,44 @@ module _ {X : Type 0} (node : ℕ → Node X → X) (head : ℕ) where
   fold_under-Int n = refl
 
   pub fold_under-Neg : (t : RawTerm) → fold_under node head (Neg t) ≡ node head (RawNode-F.Neg (fold_raw node t))
-  unfolding fold_under Rattle.alg_reader.specs.declared.raw.RawNode.TheBlock.hidden-the_row-RawTerm-0 denote.Hole.Carrier.hidden
+  unfolding fold_under Rattle.alg_reader.specs.declared.raw.RawNode.TheBlock.hidden-the_row-RawTerm-0
+      denote.Hole.Carrier.hidden
   fold_under-Neg t = refl
 
-  pub fold_under-Add : (t u : RawTerm) → fold_under node head (Add t u) ≡ node head (RawNode-F.Add (fold_raw node t) (fold_raw node u))
-  unfolding fold_under Rattle.alg_reader.specs.declared.raw.RawNode.TheBlock.hidden-the_row-RawTerm-0 denote.Hole.Carrier.hidden
+  pub fold_under-Add : (t u : RawTerm) →
+      fold_under node head (Add t u) ≡ node head (RawNode-F.Add (fold_raw node t) (fold_raw node u))
+  unfolding fold_under Rattle.alg_reader.specs.declared.raw.RawNode.TheBlock.hidden-the_row-RawTerm-0
+      denote.Hole.Carrier.hidden
   fold_under-Add t u = refl
 
-  pub fold_under-Sub : (t u : RawTerm) → fold_under node head (Sub t u) ≡ node head (RawNode-F.Sub (fold_raw node t) (fold_raw node u))
-  unfolding fold_under Rattle.alg_reader.specs.declared.raw.RawNode.TheBlock.hidden-the_row-RawTerm-0 denote.Hole.Carrier.hidden
+  pub fold_under-Sub : (t u : RawTerm) →
+      fold_under node head (Sub t u) ≡ node head (RawNode-F.Sub (fold_raw node t) (fold_raw node u))
+  unfolding fold_under Rattle.alg_reader.specs.declared.raw.RawNode.TheBlock.hidden-the_row-RawTerm-0
+      denote.Hole.Carrier.hidden
   fold_under-Sub t u = refl
 
-  pub fold_under-Mul : (t u : RawTerm) → fold_under node head (Mul t u) ≡ node head (RawNode-F.Mul (fold_raw node t) (fold_raw node u))
-  unfolding fold_under Rattle.alg_reader.specs.declared.raw.RawNode.TheBlock.hidden-the_row-RawTerm-0 denote.Hole.Carrier.hidden
+  pub fold_under-Mul : (t u : RawTerm) →
+      fold_under node head (Mul t u) ≡ node head (RawNode-F.Mul (fold_raw node t) (fold_raw node u))
+  unfolding fold_under Rattle.alg_reader.specs.declared.raw.RawNode.TheBlock.hidden-the_row-RawTerm-0
+      denote.Hole.Carrier.hidden
   fold_under-Mul t u = refl
 
-  pub fold_under-Div : (t u : RawTerm) → fold_under node head (Div t u) ≡ node head (RawNode-F.Div (fold_raw node t) (fold_raw node u))
-  unfolding fold_under Rattle.alg_reader.specs.declared.raw.RawNode.TheBlock.hidden-the_row-RawTerm-0 denote.Hole.Carrier.hidden
+  pub fold_under-Div : (t u : RawTerm) →
+      fold_under node head (Div t u) ≡ node head (RawNode-F.Div (fold_raw node t) (fold_raw node u))
+  unfolding fold_under Rattle.alg_reader.specs.declared.raw.RawNode.TheBlock.hidden-the_row-RawTerm-0
+      denote.Hole.Carrier.hidden
   fold_under-Div t u = refl
 
-  pub fold_under-Pow : (t : RawTerm) (n : RawNumber) → fold_under node head (Pow t n) ≡ node head (RawNode-F.Pow (fold_raw node t) n)
-  unfolding fold_under Rattle.alg_reader.specs.declared.raw.RawNode.TheBlock.hidden-the_row-RawTerm-0 denote.Hole.Carrier.hidden
+  pub fold_under-Pow : (t : RawTerm) (n : RawNumber) →
+      fold_under node head (Pow t n) ≡ node head (RawNode-F.Pow (fold_raw node t) n)
+  unfolding fold_under Rattle.alg_reader.specs.declared.raw.RawNode.TheBlock.hidden-the_row-RawTerm-0
+      denote.Hole.Carrier.hidden
   fold_under-Pow t n = refl
 
-  pub fold_under-Hom : (name : Span) (t : RawTerm) → fold_under node head (Hom name t) ≡ node head (RawNode-F.Hom name (fold_raw node t))
-  unfolding fold_under Rattle.alg_reader.specs.declared.raw.RawNode.TheBlock.hidden-the_row-RawTerm-0 denote.Hole.Carrier.hidden
+  pub fold_under-Hom : (name : Span) (t : RawTerm) →
+      fold_under node head (Hom name t) ≡ node head (RawNode-F.Hom name (fold_raw node t))
+  unfolding fold_under Rattle.alg_reader.specs.declared.raw.RawNode.TheBlock.hidden-the_row-RawTerm-0
+      denote.Hole.Carrier.hidden
   fold_under-Hom name t = refl
 
 -- all of them

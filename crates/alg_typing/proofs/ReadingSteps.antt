@@ -75,7 +75,8 @@ module _ (file : File) (text : List ℕ) (at start stop : ℕ) (few : HasAtMost 
     order = no_more _ at start stop 1 few.order starts long;
   }
 
-  grown : (kind : RawKind) → start + 1 ≤ stop → start + members_in kind ≤ stop → HasAtMost (extended file text kind) stop
+  grown : (kind : RawKind) → start + 1 ≤ stop → start + members_in kind ≤ stop →
+      HasAtMost (extended file text kind) stop
   grown raws.End one long = same one
   grown (raws.Sort kind name char0) one long =
       let s = same one in
@@ -237,7 +238,8 @@ module _ (bytes text : List ℕ) (is : text ≡ bytes) (utf8 : IsUtf8 bytes) whe
   read_all (Err e) told = tt
 
   -- the fault of a text is that of its bytes
-  pub told_all : (r : Result File FileEnd) → IfErr r (λ end. Tells end (λ fault. Reads text 0 no_statements (Err fault))) →
+  pub told_all : (r : Result File FileEnd) →
+      IfErr r (λ end. Tells end (λ fault. Reads text 0 no_statements (Err fault))) →
       IfErr r (λ end. Tells end (λ fault. IsReadingOf bytes (Err fault)))
   told_all (Ok file) told = tt
   told_all (Err NoMemory) told = tt

@@ -39,20 +39,25 @@ module _ (file : File) (text : List ℕ) where
   abbrev pub sorted_under : Bool → ℕ → RawNode → Sorted
   sorted_under may_divide = fold_under (node_sorted file text may_divide)
 
-  pub in_range : (head : ℕ) (node : RawNode) → names_under head node ≡ [] → EachNode (IsInRange file) (resolved head node)
+  pub in_range : (head : ℕ) (node : RawNode) → names_under head node ≡ [] →
+      EachNode (IsInRange file) (resolved head node)
   unfolding fold_under EachNode
       Rattle.alg_terms.specs.declared.term.Term.TheBlock.hidden-the_row-Term-0 denote.Hole.Carrier.hidden
   in_range head (Var name) h = var_number file text name (parts_empty _ _ h).0
   in_range head (Int n) h = tt
   in_range head (Neg' _ (more_of-RawTerm k t _)) h = (tt, in_range k t h)
   in_range head (Add' _ (more_of-RawTerm k t _) _ (more_of-RawTerm l u _)) h =
-      let (left, right) = parts_empty (names_under k t) (names_under l u) h in (tt, in_range k t left, in_range l u right)
+      let (left, right) = parts_empty (names_under k t) (names_under l u) h in
+      (tt, in_range k t left, in_range l u right)
   in_range head (Sub' _ (more_of-RawTerm k t _) _ (more_of-RawTerm l u _)) h =
-      let (left, right) = parts_empty (names_under k t) (names_under l u) h in (tt, in_range k t left, in_range l u right)
+      let (left, right) = parts_empty (names_under k t) (names_under l u) h in
+      (tt, in_range k t left, in_range l u right)
   in_range head (Mul' _ (more_of-RawTerm k t _) _ (more_of-RawTerm l u _)) h =
-      let (left, right) = parts_empty (names_under k t) (names_under l u) h in (tt, in_range k t left, in_range l u right)
+      let (left, right) = parts_empty (names_under k t) (names_under l u) h in
+      (tt, in_range k t left, in_range l u right)
   in_range head (Div' _ (more_of-RawTerm k t _) _ (more_of-RawTerm l u _)) h =
-      let (left, right) = parts_empty (names_under k t) (names_under l u) h in (tt, in_range k t left, in_range l u right)
+      let (left, right) = parts_empty (names_under k t) (names_under l u) h in
+      (tt, in_range k t left, in_range l u right)
   in_range head (Pow' _ (more_of-RawTerm k t _) n) h = (tt, in_range k t h)
   in_range head (Hom' name _ (more_of-RawTerm k t _)) h =
       let (here, below) = parts_empty _ (names_under k t) h in (hom_number file text name here, in_range k t below)

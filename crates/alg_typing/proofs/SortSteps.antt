@@ -50,7 +50,8 @@ module _ (file : File) (text : List ℕ) where
   -- a path by its next morphism
   pub path_sorts-turn : (path : List Span) (hyp i : ℕ) (d : Span) (first next fault : Option Refusal) (differs : Bool) →
       i < length path →
-      differs ≡ not (sort_along file text (drop (i + 1) path) hyp == source_of file (number_at file text (get_or path i d))) →
+      differs ≡
+      not (sort_along file text (drop (i + 1) path) hyp == source_of file (number_at file text (get_or path i d))) →
       fault ≡ first_of (fault_if differs 9 (get_or path i d).start) → next ≡ earlier_of first fault →
       earlier_of next (first_of (path_sorts file text (drop (i + 1) path) hyp))
       ≡ earlier_of first (first_of (path_sorts file text (drop i path) hyp))

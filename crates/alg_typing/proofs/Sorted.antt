@@ -117,7 +117,8 @@ module _ (file : File) (text : List ℕ) where
         ∙ sym (first_of-append (quotient file text may t.head at.sort at.in_fields) _))
 
     -- an image is checked by its argument
-    pub imaged : (name : Span) (l p : RawTerm) (hom : ℕ) (below : Standing) (a : Checked) → t.node ≡ Hom name l → p ≡ l →
+    pub imaged : (name : Span) (l p : RawTerm) (hom : ℕ) (below : Standing) (a : Checked) → t.node ≡ Hom name l →
+        p ≡ l →
         hom ≡ number_at file text name →
         below ≡ record at {
           sort = Some (source_of file hom);
@@ -142,4 +143,5 @@ module _ (file : File) (text : List ℕ) where
         ∙ (λ i. earlier_of (first_of (fault_if (differ (here.own i) (Some (source_of file hom))) 9 t.head))
         (here.fault i))
         ∙ ap at_hom is_hom
-        ∙ sym (first_of-append (fault_if (differ inner.own (Some (source_of file (number_at file text name)))) 9 t.head) _))
+        ∙ sym (first_of-append (fault_if (differ inner.own (Some (source_of file (number_at file text name)))) 9 t.head)
+        _))

@@ -28,7 +28,8 @@ exponent_in_range n h =
 module _ (file : File) (text : List ℕ) where
   -- literals in range stay so
   pub literals : (head : ℕ) (node : RawNode) → AllByRecursion (λ n. (pos 0 ≤ℤ n) × (n ≤ℤ MAX_LITERAL))
-      (fold_under (λ head node. literals_of_node node ++ of_parts node) head node) → EachNode HasLiteral (resolved file text head node)
+      (fold_under (λ head node. literals_of_node node ++ of_parts node) head node) →
+      EachNode HasLiteral (resolved file text head node)
   unfolding fold_under EachNode
       Rattle.alg_terms.specs.declared.term.Term.TheBlock.hidden-the_row-Term-0 denote.Hole.Carrier.hidden
   literals head (Var name) h = tt
@@ -99,5 +100,6 @@ module _ (file : File) (text : List ℕ) where
       let (here, rest) = parts_empty _ _ h in
       let (e, p, a) = rules_kept b k t (Some (source_of file f)) _ rest in
       let fits : Agree (own_sort file (resolved file text k t)) (Some (source_of file f)) =
-      subst (λ s. Agree s (Some (source_of file f))) (own_resolved file text b k t) (agree_if _ _ (no_fault _ 9 head here)) in
+      subst (λ s. Agree s (Some (source_of file f))) (own_resolved file text b k t)
+      (agree_if _ _ (no_fault _ 9 head here)) in
       ((tt, e), (tt, p), (fits, a))

@@ -43,7 +43,8 @@ found_more None false b false d e = e
 module _ (file : File) (text : List ℕ) where
   -- names without fault are new to the table
   pub are_new : (table : Table) (before : List (List ℕ)) (number : ℕ) (names : List Span) →
-      ((name : List ℕ) → is_some (find table name) ≡ (is_some (declared_as file name) || list_any (bytes_eq name) before)) →
+      ((name : List ℕ) →
+      is_some (find table name) ≡ (is_some (declared_as file name) || list_any (bytes_eq name) before)) →
       new_names file text before names ≡ [] → AreNew table text number names
   are_new table before number [] has none = tt
   are_new table before number (name ∷ names) has none =
@@ -57,7 +58,8 @@ module _ (file : File) (text : List ℕ) where
       )
 
 -- with the variables the table is one of the file with them
-pub table_with_vars : (file : File) (table : Table) (text : List ℕ) (sort : ℕ) (order : List Statement) (names : List Span)
+pub table_with_vars : (file : File) (table : Table) (text : List ℕ) (sort : ℕ) (order : List Statement)
+    (names : List Span)
     (number : ℕ) → number ≡ length file.vars → IsTableOf file table → AreNew table text number names →
     IsTableOf (record file {
       vars = file.vars ++ map (λ (name : Span). record { name = bytes_at text name; sort = sort }) names;

@@ -13,16 +13,19 @@ pub returns-in_err-read_declared-clause-ok : goal.returns-in_err-read_declared-c
 returns-in_err-read_declared-clause-ok c = error_tells_nothing _ _ c.from_residual.result c.from_residual.ensures.1
 
 pub returns-in_err-read_declared-clause-refused : goal.returns-in_err-read_declared-clause-refused
-returns-in_err-read_declared-clause-refused c = passed_on _ c.from_residual.result _ c.from_residual.ensures.1 c.in_err-read_declared.ensures.refused
+returns-in_err-read_declared-clause-refused c =
+    passed_on _ c.from_residual.result _ c.from_residual.ensures.1 c.in_err-read_declared.ensures.refused
 
 pub returns-in_err-read_declared-clause-by_ring : goal.returns-in_err-read_declared-clause-by_ring
 returns-in_err-read_declared-clause-by_ring c = error_tells_nothing _ _ c.from_residual.result c.from_residual.ensures.1
 
 pub returns-clause-ok : goal.returns-clause-ok
 returns-clause-ok c = (
-  subst (λ (f : File). Reads c.args.text.now 0 no_statements (Ok f)) (sym c.into_file.ensures.file) c.in_ok-read_declared.ensures.ok,
+  subst (λ (f : File). Reads c.args.text.now 0 no_statements (Ok f)) (sym c.into_file.ensures.file)
+      c.in_ok-read_declared.ensures.ok,
   c.into_file.ensures.valid,
 )
 
 pub returns-clause-by_ring : goal.returns-clause-by_ring
-returns-clause-by_ring c = subst (λ (f : File). All IsByRing f.goals) (sym c.into_file.ensures.file) c.in_ok-read_declared.ensures.by_ring
+returns-clause-by_ring c =
+    subst (λ (f : File). All IsByRing f.goals) (sym c.into_file.ensures.file) c.in_ok-read_declared.ensures.by_ring

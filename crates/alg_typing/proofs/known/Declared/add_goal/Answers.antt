@@ -13,7 +13,8 @@ added_or_not : {A E : Type 0} (file : File) (table : Table) (g : Goal) (members 
     OnOk r (list ≡ file.goals ++ members) → OnOk r (order ≡ file.order ++ statement.Goal n ∷ []) →
     OnErr r (list ≡ file.goals) → OnErr r (order ≡ file.order) → IsTableOf file table → IsValid file →
     IsValid (with_goal file g) →
-    IsTableOf (record file { goals = list; order = order }) table × IsValid (record file { goals = list; order = order })
+    IsTableOf (record file { goals = list; order = order }) table × IsValid
+    (record file { goals = list; order = order })
 added_or_not file table g members list n order (Ok u) one count is_list is_order no_list no_order is valid then = (
   is,
   subst IsValid

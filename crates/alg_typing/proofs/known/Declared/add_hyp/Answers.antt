@@ -21,7 +21,8 @@ invariant_of-self-in-Ok c =
     let hyp : Hyp = record { name = bytes_at text c.args.name; equation = c.args.equation; nonzero = c.args.nonzero } in
     let members : c.in_ok-hyps.hyps.items ≡ hyp ∷ [] =
     c.in_ok-hyps.ensures.items
-    ∙ ap (λ b. record { name = b; equation = c.args.equation; nonzero = c.args.nonzero } ∷ []) (c.in_ok-new.ensures ∙ bytes) in
+    ∙ ap (λ b. record { name = b; equation = c.args.equation; nonzero = c.args.nonzero } ∷ [])
+    (c.in_ok-new.ensures ∙ bytes) in
     let list = c.in-Ok.ensures.list_ok ∙ ap (λ m. file.hyps ++ m) members in
     let count = ap (length {A = Hyp}) c.items.ensures in
     let order = c.in-Ok.ensures.order_ok ∙ ap (λ n. file.order ++ statement.Hyp n ∷ []) count in

@@ -38,7 +38,8 @@ invariant_of-self-in-Ok c =
     kept (with_vars file vars (length spans)) _ (names ++ var_entries text number spans) _
     (λ i. record file { vars = list i; order = order i })
     c.in_ok-add_vars.ensures.ok
-    (table_with_vars file names text c.args.sort (file.order ++ statement.Vars (length file.vars) (length spans) ∷ []) spans
+    (table_with_vars file names text c.args.sort (file.order ++ statement.Vars (length file.vars) (length spans) ∷ [])
+    spans
     number count c.self.invariant.0
     (are_new file text names [] number spans (λ name. ap is_some (c.self.invariant.0 name) ∙ or_false _)
     (ap (λ f. new_names f text [] spans) c.self.view_is ∙ c.requires.fresh)))

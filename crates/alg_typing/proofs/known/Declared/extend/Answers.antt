@@ -45,7 +45,8 @@ pub add_vars-requires-clause-valid : goal.add_vars-requires-clause-valid
 add_vars-requires-clause-valid c =
     let file = c.args.self.now in
     let text = c.args.text.now in
-    let valid = extended_is_valid file text _ c.args.raw.now c.requires.valid c.requires.well_read.1 c.requires.room c.requires.faultless in
+    let valid = extended_is_valid file text _ c.args.raw.now c.requires.valid c.requires.well_read.1 c.requires.room
+    c.requires.faultless in
     let spans = sym c.items.ensures in
     subst IsValid
     (λ i. with_vars file (vars_of file text ((sym c.number_at-number.ensures) i) (spans i)) (length (spans i)))
@@ -71,7 +72,8 @@ pub add_hyp-requires-clause-valid : goal.add_hyp-requires-clause-valid
 add_hyp-requires-clause-valid c =
     let file = c.args.self.now in
     let text = c.args.text.now in
-    let valid = extended_is_valid file text _ c.args.raw.now c.requires.valid c.requires.well_read.1 c.requires.room c.requires.faultless in
+    let valid = extended_is_valid file text _ c.args.raw.now c.requires.valid c.requires.well_read.1 c.requires.room
+    c.requires.faultless in
     subst IsValid
     (λ i. with_hyp file (record {
       name = bytes_at text c.in-Hyp.name;
@@ -106,7 +108,8 @@ pub add_goal-requires : goal.add_goal-requires
 add_goal-requires c =
     let file = c.args.self.now in
     let text = c.args.text.now in
-    let valid = extended_is_valid file text _ c.args.raw.now c.requires.valid c.requires.well_read.1 c.requires.room c.requires.faultless in
+    let valid = extended_is_valid file text _ c.args.raw.now c.requires.valid c.requires.well_read.1 c.requires.room
+    c.requires.faultless in
     subst IsValid
     (λ i. with_goal file (record {
       equation = (sym c.in_ok-equation-in-Goal.ensures) i;

@@ -12,4 +12,5 @@ pub answer_sorts-requires : goal.answer_sorts-requires
 answer_sorts-requires c = c.requires
 
 pub returns-in-None : goal.returns-in-None
-returns-in-None c = sorts_next _ _ c.answer_sorts.result (sym c.in-None.is ∙ c.term_names.ensures) c.answer_sorts.ensures
+returns-in-None c = sorts_next _ _ c.answer_sorts.result (sym c.in-None.is ∙ c.term_names.ensures)
+    c.answer_sorts.ensures

@@ -19,7 +19,8 @@ returns c =
     let by = c.args.goal.now in
     let sort =
     c.unwrap_or.ensures
-    ∙ ap (λ own. unwrap_or own by.equation.sort) (c.own_sort.ensures ∙ sym (sorted_own file text (may_divide by.method) t)) in
+    ∙ ap (λ own. unwrap_or own by.equation.sort)
+    (c.own_sort.ensures ∙ sym (sorted_own file text (may_divide by.method) t)) in
     c.check.ensures.fault
     ∙ (λ i. first_of ((sorted file text (c.may_divide.ensures i) t).faults (Some (c.unwrap_or.result)) true))
     ∙ ap (λ s. first_of ((sorted file text (may_divide by.method) t).faults (Some s) true)) sort

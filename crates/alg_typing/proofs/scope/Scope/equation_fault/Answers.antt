@@ -16,4 +16,5 @@ returns c =
     c.sort_of_sides-sort.result c.check-left.result c.check-right.result _ _ c.sort_of_sides-sort.ensures
     c.check-left.ensures c.check-right.ensures
     (c.fault_where-differs.ensures ∙ ap (λ b. first_of (fault_if b 9 c.args.e.now.relation)) c.differ.ensures)
-    (c.fault_where-missing.ensures ∙ ap (λ b. first_of (fault_if b 10 c.args.e.now.relation)) (none_by _ _ c.is_none.ensures))
+    (c.fault_where-missing.ensures
+    ∙ ap (λ b. first_of (fault_if b 10 c.args.e.now.relation)) (none_by _ _ c.is_none.ensures))

@@ -22,7 +22,8 @@ loop-name-preserved c =
     let key = c.in_ok-from_str.ensures.ok in
     let bytes = c.name_in-text.ensures in
     let declared = sym (c.is_some.ensures ∙ ap is_some (c.declared_as.ensures ∙ ap (declared_as file) bytes)) in
-    let again : c.if-is_some.again ≡ (is_some (declared_as file (bytes_at text name)) || list_any (bytes_eq (bytes_at text name)) before) =
+    let again : c.if-is_some.again ≡ (is_some (declared_as file (bytes_at text name)) || list_any
+    (bytes_eq (bytes_at text name)) before) =
     elim c.if-is_some.branch [
       | then-is_some w ↦ at_once _ _ _ (declared ∙ w.if-is_some.true) (w.again-is ∙ w.if-is_some.true)
       | else-is_some w ↦ at_last _ _ _ (declared ∙ w.if-is_some.false) (w.again-is ∙ w.contains-again.ensures
@@ -32,7 +33,8 @@ loop-name-preserved c =
       λ q. ap (λ keys. has_name keys q) c.in_ok-insert.ensures.keys
           ∙ HasNames-insert c.loop-name.before.keys c.in_ok-from_str.field-0 before c.loop-name.invariant.1 q
           ∙ ap (λ b. bytes_eq q b || list_any (bytes_eq q) before) (key ∙ bytes),
-      new_names-turn file text before c.args.names.now c.loop-name.name-index _ c.loop-name.first _ _ _ c.loop-name-test.true again
+      new_names-turn file text before c.args.names.now c.loop-name.name-index _ c.loop-name.first _ _ _
+          c.loop-name-test.true again
           c.fault_where.ensures c.earlier-first.ensures
           ∙ c.loop-name.invariant.2,
     )
