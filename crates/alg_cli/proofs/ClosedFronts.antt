@@ -1,6 +1,7 @@
 -- The members of each front of a valid file name sorts of the front.
-use Rattle.std.proofs.Common.{◌≡◌, ◌<◌, ◌≤◌, ◌⊎◌, inl, inr, ℕ, ◌+◌, ◌-◌, false, List, [], ◌∷◌, ◌++◌, length, map, take, refl, sym, subst, arith}
+use Rattle.std.proofs.Common.{◌≡◌, ◌<◌, ◌≤◌, inl, inr, ℕ, ◌+◌, ◌-◌, false, List, [], ◌∷◌, ◌++◌, length, map, take, refl, sym, subst, arith}
 use Rattle.std.specs.Prelude.{All, slice_index_or}
+use Rattle.std.proofs.lemmas.Bool.{cases_lt}
 use Rattle.std.proofs.lemmas.List.{get_or-take, length-take}
 use Rattle.std.proofs.lemmas.List.Elements.{All-from_get_or, All-head, All-tail}
 use Rattle.alg_terms.specs.declared.file.File.{File}
@@ -60,12 +61,9 @@ front_closed file before fits closed =
           let sort = closed.hyps h low in omega (arith, sort, count));
     }
 
-either_side : (k n : ℕ) → (k < n) ⊎ (n ≤ k)
-either_side k n = grind arith
-
 -- what holds of numbers below one and from there on
 on_both_sides : (P : ℕ → Type 0) (k n : ℕ) → (k < n → P k) → (n ≤ k → P k) → P k
-on_both_sides P k n below behind = elim (either_side k n) [ inl low ↦ below low | inr high ↦ behind high ]
+on_both_sides P k n below behind = elim (cases_lt k n) [ inl low ↦ below low | inr high ↦ behind high ]
 
 module _ (file : File) (valid : IsValid file) (before : List Statement) (s : Statement) where
   abbrev with_s : List Statement

@@ -1,5 +1,5 @@
 -- Where terms of a file divide, they divide in its front.
-use Rattle.std.proofs.Common.{◌≡◌, ◌<◌, ℕ, Bool, true, List, [], ◌∷◌, length, refl, sym, ap, subst}
+use Rattle.std.proofs.Common.{◌<◌, ℕ, Bool, true, List, ◌∷◌, length, refl, subst}
 use Rattle.std.specs.Prelude.{All, slice_index_or}
 use Rattle.std.proofs.lemmas.List.Elements.{All-cons}
 use Rattle.alg_terms.specs.declared.file.File.{File}

@@ -1,5 +1,5 @@
 -- The canonical text of a file without answers is the file by the whole grammar.
-use Rattle.std.proofs.Common.{◌≡◌, ◌≢◌, ◌≤◌, inl, ℕ, zero, suc, ◌+◌, ◌-◌, List, [], ◌∷◌, ◌++◌, length, take, None, Ok, refl, sym, ap, ◌∙◌, subst, arith, append_assoc, append-nil}
+use Rattle.std.proofs.Common.{◌≡◌, ◌≤◌, ℕ, zero, suc, ◌+◌, ◌-◌, List, [], ◌∷◌, ◌++◌, length, take, None, refl, sym, ap, ◌∙◌, subst, arith, append_assoc, append-nil}
 use Rattle.std.specs.List.{AllByRecursion}
 use Rattle.std.specs.Option.{option_or, option_map}
 use Rattle.std.proofs.lemmas.List.Concat.{flat_map-append}
@@ -12,13 +12,11 @@ use Rattle.alg_terms.specs.Valid.{IsValid}
 use Rattle.alg_tokens.specs.Laws.{width, tokens_of, CutFromAnywhere}
 use Rattle.alg_tokens.specs.Pieces.{Piece}
 use Rattle.alg_tokens.proofs.Neighbours.{spell, spell_append, width_append}
-use Rattle.alg_reader.specs.declared.raw.RawKind.TheVariants as raws
 use Rattle.alg_reader.specs.declared.reading.Raw.{Raw}
-use Rattle.alg_reader.specs.Statements.{IsRead}
 use Rattle.alg_reader.proofs.Found.{all_split}
 use Rattle.alg_typing.specs.Faults.{fault, first_of}
 use Rattle.alg_typing.specs.NameFaults.{name_faults}
-use Rattle.alg_typing.specs.Reading.{Reads, GoesOnWith, first_fault, no_statements, IsReadingOf}
+use Rattle.alg_typing.specs.Reading.{first_fault, no_statements}
 use Rattle.alg_typing.specs.SortFaults.{sort_faults}
 use Rattle.alg_printer.specs.Text.{text_of, statement_text, IsStatementOf}
 use Rattle.alg_cli.specs.ReadingBack.{most_open, OpensFew, HasFewOpen, StandsByGrammar, HasStatements, IsByGrammar, IsWrittenByGrammar}

@@ -1,5 +1,5 @@
 -- A goal of a valid file, in its canonical text, is taken by the front of the file before it.
-use Rattle.std.proofs.Common.{◌≡◌, ◌<◌, ℕ, ◌+◌, Bool, true, false, List, [], ◌∷◌, ◌++◌, length, map, take, Some, refl, sym, ap, ◌∙◌, subst}
+use Rattle.std.proofs.Common.{◌≡◌, ◌<◌, ℕ, ◌+◌, false, List, [], ◌∷◌, ◌++◌, length, map, refl, ap, ◌∙◌}
 use Rattle.std.specs.Prelude.{All, Contains}
 use Rattle.std.specs.List.{flat_map}
 use Rattle.std.proofs.lemmas.List.Elements.{All-nil}
@@ -29,7 +29,7 @@ use Rattle.alg_cli.proofs.ClosedFronts.{sort_low}
 use Rattle.alg_cli.proofs.DividesBack.{plain_divides, fields_divide}
 use Rattle.alg_cli.proofs.EquationsBack.{IsEquationBack, equation_back}
 use Rattle.alg_cli.proofs.FrontNames.{front_distinct}
-use Rattle.alg_cli.proofs.Fronts.{front, goals_in, grows, next}
+use Rattle.alg_cli.proofs.Fronts.{front, grows, next}
 use Rattle.alg_cli.proofs.LaidMethods.{method_pieces, method_raw}
 use Rattle.alg_cli.proofs.LaidStatements.{laid_goal, laid_sides, goal_front, dot}
 use Rattle.alg_cli.proofs.LaidTerms.{space, word}

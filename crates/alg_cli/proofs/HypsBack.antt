@@ -1,5 +1,5 @@
 -- A hypothesis of a valid file, in its canonical text, is taken by the front of the file before it.
-use Rattle.std.proofs.Common.{◌≡◌, ◌<◌, ℕ, ◌+◌, Bool, false, List, [], ◌∷◌, ◌++◌, length, take, refl, sym, ap, ◌∙◌}
+use Rattle.std.proofs.Common.{◌≡◌, ◌<◌, ℕ, ◌+◌, false, List, [], ◌∷◌, ◌++◌, length, refl, ap, ◌∙◌}
 use Rattle.alg_terms.specs.declared.file.File.{File}
 use Rattle.alg_terms.specs.declared.file.Statement.{Statement}
 use Rattle.alg_terms.specs.declared.file.Statement.TheVariants as statement
@@ -12,7 +12,6 @@ use Rattle.alg_tokens.specs.declared.token.Sign.TheVariants as signs
 use Rattle.alg_tokens.specs.declared.token.TokenKind.TheVariants as kinds
 use Rattle.alg_tokens.specs.declared.token.Word.TheVariants as words
 use Rattle.alg_tokens.specs.Laws.{width}
-use Rattle.alg_tokens.specs.Pieces.{Piece}
 use Rattle.alg_reader.specs.WellRead.{bytes_at}
 use Rattle.alg_typing.specs.NameFaults.{new_name, equation_names}
 use Rattle.alg_typing.specs.Resolved.{equation_of}
@@ -20,7 +19,7 @@ use Rattle.alg_cli.proofs.DividesBack.{plain_divides}
 use Rattle.alg_cli.proofs.EquationsBack.{equation_back}
 use Rattle.alg_cli.proofs.Fresh.{fresh_hyp}
 use Rattle.alg_cli.proofs.FrontNames.{front_distinct}
-use Rattle.alg_cli.proofs.Fronts.{front, hyps_in, grows, next}
+use Rattle.alg_cli.proofs.Fronts.{front, grows, next}
 use Rattle.alg_cli.proofs.LaidStatements.{laid_hyp, laid_sides, dot, relation_sign}
 use Rattle.alg_cli.proofs.LaidTerms.{laid, space, sign, word, name, span}
 use Rattle.alg_cli.proofs.NamesTaken.{new_taken, two_empty}

@@ -1,8 +1,9 @@
 -- Names that a file takes: new ones that a statement declares, and those of sorts and hypotheses that it uses.
-use Rattle.std.proofs.Common.{◌≡◌, ◌≢◌, ◌<◌, ◌≤◌, ℕ, ◌||◌, Bool, true, false, List, [], ◌∷◌, ◌++◌, ◌⊎◌, inl, inr, length, map, Option, None, Some, is_some, refl, ap, ◌∙◌, subst, arith}
+use Rattle.std.proofs.Common.{◌≡◌, ◌≢◌, ◌<◌, ◌≤◌, ℕ, ◌||◌, false, List, [], ◌∷◌, ◌++◌, inl, inr, length, map, Option, None, Some, is_some, refl, ap, ◌∙◌, subst, arith}
 use Rattle.std.specs.Prelude.{Contains, bytes_eq, position, slice_index_or}
 use Rattle.std.specs.List.{list_any, flat_map}
 use Rattle.std.specs.Option.{option_map_or}
+use Rattle.std.proofs.lemmas.Bool.{cases_Bool}
 use Rattle.std.proofs.lemmas.List.{length-map}
 use Rattle.std.proofs.lemmas.Slice.Eq.{bytes_eq-Decides}
 use Rattle.alg_terms.specs.declared.file.File.{File}
@@ -24,14 +25,10 @@ use Rattle.alg_printer.specs.Names.{sort_name}
 use Rattle.alg_cli.proofs.Fronts.{front, sorts_in, next}
 use Rattle.alg_cli.proofs.Steps.{among_low, rises, length_of_take}
 
-bool_cases : (b : Bool) → (b ≡ true) ⊎ (b ≡ false)
-bool_cases true = inl refl
-bool_cases false = inr refl
-
 -- a name that is new to others is not found among them
 not_among : (name : Name) (others : List Name) → IsNew name others → list_any (bytes_eq name) others ≡ false
 not_among name [] h = refl
-not_among name (other ∷ others) h = elim (bool_cases (bytes_eq name other)) [
+not_among name (other ∷ others) h = elim (cases_Bool (bytes_eq name other)) [
   | inl found ↦ absurd (h.0 ((bytes_eq-Decides name other).0 found))
   | inr differs ↦ ap (λ b. b || list_any (bytes_eq name) others) differs ∙ not_among name others h.1
 ]

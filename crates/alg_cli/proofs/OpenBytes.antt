@@ -1,6 +1,7 @@
 -- How many parentheses are open in the bytes of pieces and in their tokens.
 use Rattle.std.proofs.Common.{◌≡◌, ◌≤◌, ℕ, ◌+◌, Bool, true, false, ◌||◌, ◌==◌, nat_lt, List, [], ◌∷◌, ◌++◌, flat_map, Option, None, Some, length, codes, refl, sym, ap, subst, arith, append_assoc}
 use Rattle.std.specs.List.{AllByRecursion, list_any}
+use Rattle.std.proofs.lemmas.Bool.{or_parts}
 use Rattle.std.proofs.lemmas.Bool.Decides.{nat_tests}
 use Rattle.alg_tokens.specs.declared.token.Sign.{Sign}
 use Rattle.alg_tokens.specs.declared.token.Sign.TheVariants as signs
@@ -21,24 +22,15 @@ is_paren b = b == 40 || b == 41
 abbrev pub NoParens : List ℕ → Type 0
 NoParens bytes = AllByRecursion (λ b. is_paren b ≡ false) bytes
 
--- neither of two tests
-test_left : (a b : Bool) → (a || b) ≡ false → a ≡ false
-test_left true b h = h
-test_left false b h = refl
-
-test_right : (a b : Bool) → (a || b) ≡ false → b ≡ false
-test_right true b h = absurd (cc)
-test_right false b h = h
-
 -- by a test of all bytes
 pub no_parens : (bytes : List ℕ) → list_any is_paren bytes ≡ false → NoParens bytes
 no_parens [] h = tt
-no_parens (b ∷ bytes) h = (test_left (is_paren b) _ h, no_parens bytes (test_right (is_paren b) _ h))
+no_parens (b ∷ bytes) h = ((or_parts (is_paren b) _ h).0, no_parens bytes (or_parts (is_paren b) _ h).1)
 
 -- as many are open after another byte
 stays_open : (depth byte : ℕ) → is_paren byte ≡ false → open_with depth byte ≡ depth
 stays_open depth byte h =
-    rw (test_left (byte == 40) (byte == 41) h, test_right (byte == 40) (byte == 41) h) refl
+    let (left, right) = or_parts (byte == 40) (byte == 41) h in rw (left, right) refl
 
 -- as many are open at once as are at first
 pub opens_first : (depth : ℕ) (text : List ℕ) → depth ≤ most_open depth text

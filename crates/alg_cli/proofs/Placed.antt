@@ -1,6 +1,7 @@
 -- Pieces that stand in a text from a place on.
-use Rattle.std.proofs.Common.{◌≡◌, ℕ, ◌+◌, ◌-◌, ◌⊎◌, inl, inr, Bool, true, false, List, [], ◌∷◌, ◌++◌, length, take, drop, refl, sym, ap, ◌∙◌, subst, arith}
+use Rattle.std.proofs.Common.{◌≡◌, ℕ, ◌+◌, ◌-◌, inl, inr, List, [], ◌∷◌, ◌++◌, length, take, drop, refl, sym, ap, ◌∙◌, subst, arith}
 use Rattle.std.specs.Prelude.{nat_lt, if◌then◌else◌}
+use Rattle.std.proofs.lemmas.Bool.{cases_Bool}
 use Rattle.alg_tokens.specs.declared.token.TokenKind.{TokenKind}
 use Rattle.alg_tokens.specs.Laws.{width}
 use Rattle.alg_tokens.specs.Pieces.{Piece, Lexeme, bytes_of}
@@ -50,15 +51,11 @@ span_bytes text at kind bytes pieces h =
     let long : (at + length bytes) - at ≡ length bytes = omega arith in
     ap (λ n. take n (drop at text)) long ∙ h.0
 
-bool_cases : (b : Bool) → (b ≡ true) ⊎ (b ≡ false)
-bool_cases true = inl refl
-bool_cases false = inr refl
-
 -- what holds of a raw term wherever its pieces stand holds of it as a part, in parentheses or not
 pub part_as : (text : List ℕ) (Q : RawTerm → Type 0) (l : Laid) (wanted at : ℕ) →
     ((place : ℕ) → Placed text place l.pieces → Q (l.raw place)) → Placed text at (part_pieces wanted l) →
     Q (part_raw wanted l at)
-part_as text Q l wanted at holds placed = elim (bool_cases (nat_lt l.level wanted)) [
+part_as text Q l wanted at holds placed = elim (cases_Bool (nat_lt l.level wanted)) [
   | inl inner ↦
       let inside = subst (λ b. Placed text at (if b then in_parentheses l.pieces else l.pieces)) inner placed in
       let there = placed_left text (at + 1) l.pieces _ inside.1 in

@@ -1,8 +1,9 @@
 -- Names and numerals have no parentheses.
-use Rattle.std.proofs.Common.{◌≡◌, ◌≤◌, ◌<◌, ◌⊎◌, inl, inr, ℕ, ℤ, pos, negsuc, ◌+◌, ◌/◌, ◌%◌, true, false, ◌==◌, nat_lt, cond, List, [], ◌∷◌, ◌++◌, zero, suc, length, map, decimal, get_or, refl, arith}
+use Rattle.std.proofs.Common.{◌≡◌, ◌≤◌, ◌<◌, inl, inr, ℕ, ℤ, pos, negsuc, ◌+◌, ◌/◌, ◌%◌, true, false, ◌==◌, nat_lt, cond, List, [], ◌∷◌, ◌++◌, zero, suc, length, map, decimal, get_or, refl, arith}
 use Rattle.std.specs.Fmt.{digits, digits_onto, digit_glyph, signed_decimal}
 use Rattle.std.specs.List.{AllByRecursion}
 use Rattle.std.specs.Str.{NoCharPasses, NonePass}
+use Rattle.std.proofs.lemmas.Bool.{cases_lt}
 use Rattle.std.proofs.lemmas.Bool.Decides.{nat_tests}
 use Rattle.std.proofs.lemmas.List.Elements.{recursion_from_All}
 use Rattle.std.proofs.lemmas.Str.{NoCharPasses-byte}
@@ -14,10 +15,6 @@ use Rattle.alg_terms.specs.Valid.{IsValid, names_of}
 use Rattle.alg_printer.specs.Names.{sort_name, var_name, hom_name}
 use Rattle.alg_cli.proofs.OpenBytes.{is_paren, NoParens}
 
--- one number is below the other or not
-lt_or_le : (m n : ℕ) → (m < n) ⊎ (n ≤ m)
-lt_or_le m n = grind arith
-
 -- ---- names
 
 -- bytes and characters that are no parentheses
@@ -25,13 +22,13 @@ high_byte : (c : ℕ) → 128 ≤ c → is_paren c ≡ false
 high_byte c high = grind (arith, nat_tests)
 
 start_char : (c : ℕ) → starts_name c ≡ true → is_paren c ≡ false
-start_char c h = elim (lt_or_le c 128) [
+start_char c h = elim (cases_lt c 128) [
   | inl low ↦ let start = is_xid_start-ascii c low in grind (arith, nat_tests)
   | inr high ↦ high_byte c high
 ]
 
 next_char : (c : ℕ) → continues_name c ≡ true → is_paren c ≡ false
-next_char c h = elim (lt_or_le c 128) [
+next_char c h = elim (cases_lt c 128) [
   | inl low ↦ let next = is_xid_continue-ascii c low in grind (arith, nat_tests)
   | inr high ↦ high_byte c high
 ]
@@ -49,7 +46,7 @@ by_places (b ∷ bytes) h = (h 0 (omega arith), by_places bytes (λ k low. h (su
 pub spelled_plain : (bytes : List ℕ) → IsSpelledAsName bytes → NoParens bytes
 spelled_plain bytes (c, chars, spelled, starts, all) =
     let none : NoCharPasses is_paren bytes = (c ∷ chars, spelled, (start_char c starts, next_chars chars all)) in
-    by_places bytes (λ k low. elim (lt_or_le (get_or bytes k 0) 128) [
+    by_places bytes (λ k low. elim (cases_lt (get_or bytes k 0) 128) [
       | inl small ↦ NoCharPasses-byte is_paren bytes k none low small
       | inr high ↦ high_byte (get_or bytes k 0) high
     ])

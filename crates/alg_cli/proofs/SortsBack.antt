@@ -1,21 +1,16 @@
 -- The raw term of a canonical text has no faults of sorts where the term keeps the rules of a term and divides only
 -- where its goal may.
 use Rattle.std.proofs.Common.{◌≡◌, ℕ, ℤ, ◌+◌, Bool, true, false, List, [], ◌∷◌, ◌++◌, length, Option, None, Some, refl, sym, ap, ◌∙◌, subst, arith}
-use Rattle.std.specs.Prelude.{All, nat_lt, not, ◌&&◌, ◌||◌}
+use Rattle.std.specs.Prelude.{nat_lt}
 use Rattle.std.proofs.lemmas.Bool.Decides.{nat_tests}
-use Rattle.std.proofs.lemmas.List.Elements.{All-head, All-tail}
-use Rattle.alg_terms.specs.declared.declarations.Kind.{Kind}
-use Rattle.alg_terms.specs.declared.declarations.Kind.TheVariants.{Ring, Domain, Field}
 use Rattle.alg_terms.specs.declared.file.File.{File}
 use Rattle.alg_terms.specs.declared.limits.TheConstants.{MAX_EXPONENT}
 use Rattle.alg_terms.specs.declared.term.Term.{Term}
 use Rattle.alg_terms.specs.declared.term.Term.TheVariants.{Var, Int, Neg, Add, Sub, Mul, Div, Pow, Hom}
 use Rattle.alg_terms.specs.declared.term.Term.TheOpen.{Term-F}
-use Rattle.alg_terms.specs.Kinds.{IsField}
-use Rattle.alg_terms.specs.Members.{kind_of, source_of, target_of}
+use Rattle.alg_terms.specs.Members.{kind_of, source_of}
 use Rattle.alg_terms.specs.Nodes.{fold_term, EachNode}
 use Rattle.alg_terms.specs.Sorts.{own_sort, Agree, EachNodeAt}
-use Rattle.alg_terms.specs.TermRules.{IsInRange, HasExponent, HasAgreeingParts, HasFittingArgument, DividesInFields}
 use Rattle.alg_terms.specs.Valid.{names_of}
 use Rattle.alg_tokens.specs.declared.token.Sign.{Sign}
 use Rattle.alg_tokens.specs.declared.token.Sign.TheVariants as signs

@@ -1,5 +1,5 @@
 -- Where a file can be read today, its canonical text reads as the file.
-use Rattle.std.proofs.Common.{◌≡◌, ◌≢◌, inl, ℕ, ◌+◌, List, [], ◌∷◌, ◌++◌, length, None, Ok, refl, sym, ap, ◌∙◌, subst, arith, append_assoc, append-nil}
+use Rattle.std.proofs.Common.{◌≡◌, ◌≢◌, inl, ℕ, ◌+◌, List, [], ◌∷◌, ◌++◌, length, None, Ok, refl, sym, ◌∙◌, subst, append_assoc, append-nil}
 use Rattle.alg_terms.specs.declared.file.File.{File}
 use Rattle.alg_terms.specs.declared.file.Statement.{Statement}
 use Rattle.alg_terms.specs.declared.file.Statement.TheVariants as statement
@@ -8,7 +8,6 @@ use Rattle.alg_tokens.specs.Laws.{width, CutFromAnywhere}
 use Rattle.alg_reader.specs.declared.raw.RawKind.TheVariants as raws
 use Rattle.alg_reader.specs.Statements.{IsRead}
 use Rattle.alg_typing.specs.Reading.{Reads, GoesOnWith, IsReadingOf}
-use Rattle.alg_printer.specs.Text.{IsStatementOf}
 use Rattle.alg_cli.specs.ReadingBack.{OpensFew, IsReadToday, ReadsBack}
 use Rattle.alg_cli.proofs.ClosedFronts.{IsClosedBy, nothing_closed, closed_next}
 use Rattle.alg_cli.proofs.FilesBack.{text, pieces_of, begin, place, raw_of, few_there, taken_there, next_place, faultless, whole_front, empty_front}

@@ -1,11 +1,9 @@
 -- The raw use of a canonical text resolves to the use, and has no faults, in the front of a file that has its names.
-use Rattle.std.proofs.Common.{◌≡◌, ◌≢◌, ◌<◌, ℕ, ◌+◌, Bool, true, false, List, [], ◌∷◌, ◌++◌, ◌⊎◌, inl, inr, length, map, Some, refl, sym, ap, ◌∙◌, subst, arith}
+use Rattle.std.proofs.Common.{◌≡◌, ◌≢◌, ◌<◌, ℕ, ◌+◌, Bool, true, false, List, [], ◌∷◌, ◌++◌, length, map, Some, refl, sym, ap, ◌∙◌, subst, arith}
 use Rattle.std.specs.Prelude.{All, not, ◌==◌, ◌&&◌}
 use Rattle.std.specs.List.{AllByRecursion, flat_map}
 use Rattle.std.proofs.lemmas.Bool.Decides.{nat_tests}
 use Rattle.std.proofs.lemmas.List.Elements.{All-nil, All-cons, All-head, All-tail, recursion_from_All}
-use Rattle.alg_terms.specs.declared.declarations.Kind.{Kind}
-use Rattle.alg_terms.specs.declared.declarations.Kind.TheVariants.{Ring, Domain, Field}
 use Rattle.alg_terms.specs.declared.file.File.{File}
 use Rattle.alg_terms.specs.declared.goals.Use.{Use}
 use Rattle.alg_terms.specs.GoalRules.{IsUse}
@@ -39,10 +37,6 @@ use Rattle.alg_cli.proofs.TermsBack.{hom_used}
 -- numbers that are equal don't differ
 never_differ : (a b : ℕ) → a ≡ b → not (a == b) ≡ false
 never_differ a b same = grind (arith, nat_tests)
-
-bool_cases : (b : Bool) → (b ≡ true) ⊎ (b ≡ false)
-bool_cases true = inl refl
-bool_cases false = inr refl
 
 -- what is asked where something holds does not fail
 asked_holds : (asked holds : Bool) → (asked ≡ true → holds ≡ true) → asked && not holds ≡ false

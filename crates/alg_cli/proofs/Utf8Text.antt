@@ -1,10 +1,11 @@
 -- The canonical text of a file is UTF-8.
-use Rattle.std.proofs.Common.{◌≡◌, ◌<◌, ◌⊎◌, inl, inr, ℕ, zero, suc, Bool, true, false, not, ◌||◌, ◌&&◌, ◌==◌, List, [], ◌∷◌, ◌++◌, refl, sym, ap, ◌∙◌, subst, arith, lit<}
+use Rattle.std.proofs.Common.{◌≡◌, ◌<◌, inl, inr, ℕ, zero, suc, true, not, ◌||◌, ◌&&◌, ◌==◌, List, [], ◌∷◌, ◌++◌, refl, sym, ap, ◌∙◌, subst, arith, lit<}
 use Rattle.std.specs.Char.{IsAsciiDigit}
 use Rattle.std.specs.List.{AllByRecursion}
 use Rattle.std.specs.Prelude.{slice_index}
 use Rattle.std.specs.Str.{IsUtf8}
 use Rattle.std.proofs.Math.Utf8.{scalar, scalars}
+use Rattle.std.proofs.lemmas.Bool.{or_cases}
 use Rattle.std.proofs.lemmas.Bool.Decides.{nat_tests}
 use Rattle.std.proofs.lemmas.Str.{IsUtf8-append, IsUtf8-nil, IsUtf8-from_ascii}
 use Rattle.ucd_table.specs.Rows.{Range, in_ranges}
@@ -37,10 +38,6 @@ use Rattle.alg_cli.proofs.StandingStatements.{stand_file}
 abbrev scalar_ranges : List Range
 scalar_ranges = (0, 55295) ∷ (57344, 1114111) ∷ []
 
-either : (a b : Bool) → (a || b) ≡ true → (a ≡ true) ⊎ (b ≡ true)
-either true b h = inl refl
-either false b h = inr h
-
 -- a character that may go on with an identifier is one
 in_scalar_ranges : (c : ℕ) → is_xid_continue c ≡ true → in_ranges scalar_ranges c ≡ true
 unfolding unicode_ident tables
@@ -54,13 +51,13 @@ unfolding in_ranges
 xid_scalar c continues = let there = in_scalar_ranges c continues in grind (arith, nat_tests)
 
 continues_scalar : (c : ℕ) → continues_name c ≡ true → scalar c ≡ true
-continues_scalar c h = elim (either (c == 39) (is_xid_continue c) h) [
+continues_scalar c h = elim (or_cases (c == 39) (is_xid_continue c) h) [
   | inl quote ↦ grind (arith, nat_tests)
   | inr continues ↦ xid_scalar c continues
 ]
 
 starts_scalar : (c : ℕ) → starts_name c ≡ true → scalar c ≡ true
-starts_scalar c h = elim (either (c == 95) (is_xid_start c) h) [
+starts_scalar c h = elim (or_cases (c == 95) (is_xid_start c) h) [
   | inl low_line ↦ grind (arith, nat_tests)
   | inr starts ↦ xid_scalar c (is_xid_start-is_xid_continue c starts)
 ]

@@ -1,8 +1,9 @@
 -- In a file with distinct names each declared name is that of its member, and another one is declared as nothing.
-use Rattle.std.proofs.Common.{◌≡◌, ◌≢◌, ◌<◌, ℕ, zero, suc, Bool, true, false, cond, List, [], ◌∷◌, ◌++◌, ◌⊎◌, inl, inr, length, map, Option, None, Some, refl, sym, ap, ◌∙◌, subst, arith}
+use Rattle.std.proofs.Common.{◌≡◌, ◌≢◌, ◌<◌, ℕ, zero, suc, Bool, true, false, cond, List, [], ◌∷◌, ◌++◌, inl, inr, length, map, Option, None, Some, refl, sym, ap, ◌∙◌, subst, arith}
 use Rattle.std.specs.Prelude.{bytes_eq, position, slice_index_or, nat_lt}
 use Rattle.std.specs.List.{AllByRecursion, position_or_len}
 use Rattle.std.specs.Option.{option_or, option_map}
+use Rattle.std.proofs.lemmas.Bool.{cases_Bool}
 use Rattle.std.proofs.lemmas.Bool.Decides.{nat_tests}
 use Rattle.std.proofs.lemmas.List.{length-map}
 use Rattle.std.proofs.lemmas.Slice.Eq.{bytes_eq-Decides}
@@ -14,16 +15,12 @@ use Rattle.alg_typing.specs.declared.declaration.Declaration.TheVariants.{Sort, 
 use Rattle.alg_typing.specs.Names.{declared_as}
 use Rattle.alg_typing.proofs.FreshNames.{Name, IsNew, AreDistinct, AreApart, distinct_left, distinct_right, distinct_apart, recursion_left, recursion_right}
 
-cases : (b : Bool) → (b ≡ true) ⊎ (b ≡ false)
-cases true = inl refl
-cases false = inr refl
-
 -- the first item that passes is counted from the front
 pub position-cons : {X : Type 0} (p : X → Bool) (x : X) (xs : List X) →
     position p (x ∷ xs) ≡ cond (p x) (Some 0) (option_map suc (position p xs))
-position-cons p x xs = elim (cases (p x)) [
+position-cons p x xs = elim (cases_Bool (p x)) [
   | inl passes ↦ grind (arith, nat_tests)
-  | inr fails ↦ elim (cases (nat_lt (position_or_len p xs) (length xs))) [
+  | inr fails ↦ elim (cases_Bool (nat_lt (position_or_len p xs) (length xs))) [
     | inl low ↦ grind (arith, nat_tests)
     | inr high ↦ grind (arith, nat_tests)
   ]
@@ -33,7 +30,7 @@ same_name : (name : Name) → bytes_eq name name ≡ true
 same_name name = (bytes_eq-Decides name name).1 refl
 
 other_name : (name other : Name) → name ≢ other → bytes_eq name other ≡ false
-other_name name other differ = elim (cases (bytes_eq name other)) [
+other_name name other differ = elim (cases_Bool (bytes_eq name other)) [
   | inl found ↦ absurd (differ ((bytes_eq-Decides name other).0 found))
   | inr fails ↦ fails
 ]

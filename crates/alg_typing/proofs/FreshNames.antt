@@ -1,8 +1,9 @@
 -- Names that are new to a file: none of its names is one of them.
-use Rattle.std.proofs.Common.{◌≡◌, ◌≢◌, ◌<◌, ℕ, suc, Bool, true, false, cond, List, [], ◌∷◌, ◌++◌, ◌⊎◌, inl, inr, length, map, Option, None, Some, refl, sym, arith}
+use Rattle.std.proofs.Common.{◌≡◌, ◌≢◌, ◌<◌, ℕ, suc, Bool, true, false, cond, List, [], ◌∷◌, ◌++◌, inl, inr, length, map, Option, None, Some, refl, sym, arith}
 use Rattle.std.specs.Prelude.{AllPairs, bytes_eq, position, slice_index_or, nat_lt}
 use Rattle.std.specs.List.{AllByRecursion, position_or_len}
 use Rattle.std.specs.Option.{option_or, option_map}
+use Rattle.std.proofs.lemmas.Bool.{cases_Bool}
 use Rattle.std.proofs.lemmas.Bool.Decides.{nat_tests}
 use Rattle.std.proofs.lemmas.List.Elements.{All-from_recursion}
 use Rattle.std.proofs.lemmas.List.Kept.{AllPairs-cons}
@@ -24,15 +25,11 @@ abbrev pub AreDistinct : List Name → Type 0
 AreDistinct [] = Unit {0}
 AreDistinct (name ∷ names) = IsNew name names × AreDistinct names
 
-bool_cases : (b : Bool) → (b ≡ true) ⊎ (b ≡ false)
-bool_cases true = inl refl
-bool_cases false = inr refl
-
 -- where no item is found, none passes
 none_passes : {X : Type 0} (p : X → Bool) (xs : List X) → (position_or_len p xs < length xs → ⊥) →
     AllByRecursion (λ x. p x ≡ false) xs
 none_passes p [] h = tt
-none_passes p (x ∷ xs) h = elim (bool_cases (p x)) [
+none_passes p (x ∷ xs) h = elim (cases_Bool (p x)) [
   | inl passes ↦ absurd (h (grind (arith, nat_tests)))
   | inr fails ↦ (fails, none_passes p xs (λ low. h (grind (arith, nat_tests))))
 ]

@@ -2,6 +2,7 @@
 use Rattle.std.proofs.Common.{◌≡◌, ◌≢◌, ◌≤◌, ◌<◌, ℕ, true, false, List, [], ◌∷◌, length, map, Option, None, Some, refl, sym, subst, arith}
 use Rattle.std.specs.Prelude.{All, flat_map, nat_lt, not, ◌&&◌, ◌||◌, ◌==◌}
 use Rattle.std.specs.Int.RustNames.{unsigned_abs}
+use Rattle.std.proofs.lemmas.Bool.{or_parts}
 use Rattle.std.proofs.lemmas.Bool.Decides.{nat_tests}
 use Rattle.std.proofs.lemmas.List.{length-map}
 use Rattle.std.proofs.lemmas.List.Elements.{All-nil, All-cons}
@@ -24,7 +25,7 @@ use Rattle.alg_typing.specs.SortFaults.{option_range, sort_along, path_sorts, is
 use Rattle.alg_typing.specs.TermSorts.{is_ring, is_field}
 use Rattle.alg_typing.proofs.NewEquations.{divides_nowhere, divides_in_fields}
 use Rattle.alg_typing.proofs.NumbersInRange.{parts_empty, no_fault, hom_number, hyp_number}
-use Rattle.alg_typing.proofs.Quotients.{field_if, domain_if, or_false, not_false}
+use Rattle.alg_typing.proofs.Quotients.{field_if, domain_if, not_false}
 
 -- a test of two numbers that passes
 same_if : (a b : ℕ) → (a == b) ≡ true → a ≡ b
@@ -36,7 +37,7 @@ in_range : (default low high : ℕ) (number : Option RawNumber) → low ≤ defa
 in_range default low high None least most h = (least, most)
 in_range default low high (Some n) least most h =
     let value = unsigned_abs n.value in
-    let (over, under) = or_false (nat_lt value low) (nat_lt high value)
+    let (over, under) = or_parts (nat_lt value low) (nat_lt high value)
     (no_fault (nat_lt value low || nat_lt high value) 16 n.at h) in
     (grind (arith, nat_tests), grind (arith, nat_tests))
 

@@ -2,6 +2,7 @@
 use Rattle.std.proofs.Common.{◌≡◌, ℕ, true, false, ◌||◌, List, [], ◌∷◌, map, Option, None, Some, refl}
 use Rattle.std.specs.Prelude.{All, bytes_eq, is_some}
 use Rattle.std.specs.List.{AllByRecursion, list_any}
+use Rattle.std.proofs.lemmas.Bool.{or_parts}
 use Rattle.std.proofs.lemmas.List.Elements.{All-nil, All-cons, All-head, All-tail}
 use Rattle.std.proofs.lemmas.Slice.Eq.{bytes_eq-Decides}
 use Rattle.alg_terms.specs.declared.file.File.{File}
@@ -12,7 +13,7 @@ use Rattle.alg_typing.specs.NameFaults.{new_name, new_names}
 use Rattle.alg_typing.specs.Names.{declared_as}
 use Rattle.alg_typing.proofs.FreshNames.{AreDistinct, AreApart, IsNew, apart_cons}
 use Rattle.alg_typing.proofs.NumbersInRange.{parts_empty, no_fault}
-use Rattle.alg_typing.proofs.Quotients.{or_false}
+use Rattle.alg_typing.proofs.Quotients.{}
 
 none_if : {X : Type 0} (option : Option X) → is_some option ≡ false → option ≡ None
 none_if None h = refl
@@ -22,7 +23,7 @@ none_if (Some x) h = absurd (cc)
 apart_if : (name : List ℕ) (others : List (List ℕ)) → list_any (bytes_eq name) others ≡ false → IsNew name others
 apart_if name [] h = tt
 apart_if name (other ∷ others) h =
-    let (here, later) = or_false (bytes_eq name other) (list_any (bytes_eq name) others) h in (
+    let (here, later) = or_parts (bytes_eq name other) (list_any (bytes_eq name) others) h in (
       λ same. let found : bytes_eq name other ≡ true = (bytes_eq-Decides name other).1 same in cc,
       apart_if name others later,
     )
@@ -33,7 +34,7 @@ module _ (file : File) (text : List ℕ) where
       (declared_as file (bytes_at text name) ≡ None) × IsNew (bytes_at text name) before
   is_new before name h =
       let bytes = bytes_at text name in
-      let (free, other) = or_false (is_some (declared_as file bytes)) (list_any (bytes_eq bytes) before)
+      let (free, other) = or_parts (is_some (declared_as file bytes)) (list_any (bytes_eq bytes) before)
       (no_fault (is_some (declared_as file bytes) || list_any (bytes_eq bytes) before) 6 name.start h) in
       (none_if (declared_as file bytes) free, apart_if bytes before other)
 

@@ -1,6 +1,7 @@
 -- A term whose sorts have no faults has quotients where it may have them alone.
 use Rattle.std.proofs.Common.{◌≡◌, ℕ, Bool, true, false, List, [], ◌∷◌, Option, Some, refl}
 use Rattle.std.specs.Prelude.{All, not, ◌&&◌, ◌||◌}
+use Rattle.std.proofs.lemmas.Bool.{or_parts, and_parts}
 use Rattle.std.proofs.lemmas.List.Elements.{All-cons}
 use Rattle.alg_terms.specs.declared.declarations.Kind.{Kind}
 use Rattle.alg_terms.specs.declared.declarations.Kind.TheVariants.{Ring, Domain, Field}
@@ -27,18 +28,9 @@ domain_if Ring h = absurd (cc)
 domain_if Domain h = tt
 domain_if Field h = tt
 
--- where neither of two tests passes
-pub or_false : (a b : Bool) → (a || b) ≡ false → (a ≡ false) × (b ≡ false)
-or_false true b h = absurd (cc)
-or_false false b h = (refl, h)
-
 pub not_false : (b : Bool) → not b ≡ false → b ≡ true
 not_false true h = refl
 not_false false h = absurd (cc)
-
-and_true : (a b : Bool) → (a && b) ≡ true → (a ≡ true) × (b ≡ true)
-and_true true b h = (refl, h)
-and_true false b h = absurd (cc)
 
 module _ (file : File) (text : List ℕ) where
   -- where no quotient may stand, none does
@@ -76,7 +68,7 @@ module _ (file : File) (text : List ℕ) where
       IsField (kind_of file s) × (b ≡ true)
   may_stand head s b h =
       let none = no_fault ((false || not (is_field (kind_of file s))) || not b) 13 head h in
-      let (some, below) = or_false (false || not (is_field (kind_of file s))) (not b) none in
+      let (some, below) = or_parts (false || not (is_field (kind_of file s))) (not b) none in
       (field_if (kind_of file s) (not_false (is_field (kind_of file s)) some), not_false b below)
 
   -- where quotients may stand, they do so in fields alone
@@ -114,6 +106,6 @@ module _ (file : File) (text : List ℕ) where
       let (here, rest) = parts_empty _ _ h in
       let further : (b && is_field (kind_of file (target_of file f))) ≡ true →
       All (λ g. IsField (kind_of file (target_of file g))) (f ∷ above) =
-      λ both. let (all, field) = and_true _ _ both in
+      λ both. let (all, field) = and_parts _ _ both in
       All-cons (λ g. IsField (kind_of file (target_of file g))) f above (field_if _ field) (up all) in
       (tt, in_fields k t (source_of file f) _ (f ∷ above) further rest)

@@ -1,6 +1,5 @@
 -- What is said of all names or all exponents of a term that was read holds of those of its parts.
-use Rattle.std.proofs.Common.{◌≡◌, ◌⊎◌, inl, inr, ℕ, ◌+◌, List, ◌++◌, length, subst, sym, ap, ◌∙◌, ◌≤◌, arith, All}
-use Rattle.std.proofs.lemmas.List.{get_or_append_left, get_or-append-add, length-append}
+use Rattle.std.proofs.Common.{◌≡◌, ◌⊎◌, inl, inr, ℕ, List, ◌++◌, subst, sym, ap, ◌∙◌, ◌≤◌, arith, All}
 use Rattle.alg_reader.specs.declared.raw.RawTerm.{RawTerm}
 use Rattle.alg_reader.specs.declared.raw.RawNode.{RawNode}
 use Rattle.alg_reader.specs.declared.raw.RawNode.TheVariants.{Neg, Add, Sub, Mul, Div, Pow, Hom}
@@ -11,16 +10,8 @@ use Rattle.alg_reader.specs.WellRead.{IsNameAt}
 use Rattle.std.specs.Int.RustNames.{unsigned_abs}
 use Rattle.alg_terms.specs.declared.limits.TheConstants.{MAX_EXPONENT}
 use Rattle.alg_typing.specs.TermsOf.{IsTermOf, IsSmallTermOf, IsExponent}
+use Rattle.alg_typing.proofs.Ordering.{all_left as first_all, all_right as last_all}
 use Rattle.alg_typing.proofs.RawBuilt.{fold_under-Neg, fold_under-Add, fold_under-Sub, fold_under-Mul, fold_under-Div, fold_under-Pow, fold_under-Hom}
-
--- what holds of each of several holds of the first of them, and of the last
-pub All-front : {X : Type 0} (P : X → Type 0) (xs ys : List X) → All P (xs ++ ys) → All P xs
-All-front P xs ys all = λ k d h.
-    subst P (get_or_append_left xs ys d k h) (all k d (omega (arith, length-append xs ys)))
-
-pub All-back : {X : Type 0} (P : X → Type 0) (xs ys : List X) → All P (xs ++ ys) → All P ys
-All-back P xs ys all = λ k d h.
-    subst P (get_or-append-add xs ys k d) (all (length xs + k) d (omega (arith, length-append xs ys)))
 
 -- the node of a term is an operator on two parts
 abbrev pub Joins : RawTerm → RawTerm → RawTerm → Type 0
@@ -43,28 +34,28 @@ module _ {Y : Type 0} (P : Y → Type 0) (own : Node (List Y) → List Y) (t : R
 
   joined : (l r : RawTerm) → Joins t l r →
       All P (fold_raw (own_and_parts own) l ++ fold_raw (own_and_parts own) r)
-  joined l r (inl e) = All-back P _ _ (at_node _ _ e (fold_under-Add (own_and_parts own) t.head l r))
-  joined l r (inr (inl e)) = All-back P _ _ (at_node _ _ e (fold_under-Sub (own_and_parts own) t.head l r))
-  joined l r (inr (inr (inl e))) = All-back P _ _ (at_node _ _ e (fold_under-Mul (own_and_parts own) t.head l r))
-  joined l r (inr (inr (inr e))) = All-back P _ _ (at_node _ _ e (fold_under-Div (own_and_parts own) t.head l r))
+  joined l r (inl e) = last_all P _ _ (at_node _ _ e (fold_under-Add (own_and_parts own) t.head l r))
+  joined l r (inr (inl e)) = last_all P _ _ (at_node _ _ e (fold_under-Sub (own_and_parts own) t.head l r))
+  joined l r (inr (inr (inl e))) = last_all P _ _ (at_node _ _ e (fold_under-Mul (own_and_parts own) t.head l r))
+  joined l r (inr (inr (inr e))) = last_all P _ _ (at_node _ _ e (fold_under-Div (own_and_parts own) t.head l r))
 
   all_left : (l r : RawTerm) → Joins t l r → All P (fold_raw (own_and_parts own) l)
-  all_left l r is = All-front P _ _ (joined l r is)
+  all_left l r is = first_all P _ _ (joined l r is)
 
   all_right : (l r : RawTerm) → Joins t l r → All P (fold_raw (own_and_parts own) r)
-  all_right l r is = All-back P _ _ (joined l r is)
+  all_right l r is = last_all P _ _ (joined l r is)
 
   all_covered : (p : RawTerm) → Covers t p → All P (fold_raw (own_and_parts own) p)
-  all_covered p (inl e) = All-back P _ _ (at_node _ _ e (fold_under-Neg (own_and_parts own) t.head p))
-  all_covered p (inr (n, e)) = All-back P _ _ (at_node _ _ e (fold_under-Pow (own_and_parts own) t.head p n))
+  all_covered p (inl e) = last_all P _ _ (at_node _ _ e (fold_under-Neg (own_and_parts own) t.head p))
+  all_covered p (inr (n, e)) = last_all P _ _ (at_node _ _ e (fold_under-Pow (own_and_parts own) t.head p n))
 
   all_argument : (name : Span) (p : RawTerm) → t.node ≡ Hom name p → All P (fold_raw (own_and_parts own) p)
-  all_argument name p e = All-back P _ _ (at_node _ _ e (fold_under-Hom (own_and_parts own) t.head name p))
+  all_argument name p e = last_all P _ _ (at_node _ _ e (fold_under-Hom (own_and_parts own) t.head name p))
 
   -- the exponent of a power
   pub own_exponent : (p : RawTerm) (n : RawNumber) → t.node ≡ Pow p n →
       All P (own (Rattle.alg_reader.specs.declared.raw.RawNode.TheOpen.Pow (fold_raw (own_and_parts own) p) n))
-  own_exponent p n e = All-front P _ _ (at_node _ _ e (fold_under-Pow (own_and_parts own) t.head p n))
+  own_exponent p n e = first_all P _ _ (at_node _ _ e (fold_under-Pow (own_and_parts own) t.head p n))
 
 -- a term of the text that is equal to another
 same_term : (text : List ℕ) (p q : RawTerm) → q ≡ p → IsTermOf text p → IsTermOf text q

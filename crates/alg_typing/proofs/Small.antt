@@ -21,8 +21,9 @@ use Rattle.alg_typing.specs.Resolved.{node_term, term_of, number_at}
 use Rattle.alg_typing.specs.SortFaults.{option_range, equation_sorts, method_sorts, sort_of_sides}
 use Rattle.alg_typing.specs.TermSorts.{sorted, node_sorted, exponent}
 use Rattle.alg_typing.specs.TermsOf.{IsExponent, IsSmallTermOf, HasSmallOptions}
+use Rattle.alg_typing.proofs.NumbersInRange.{parts_empty}
 use Rattle.alg_typing.proofs.RawParts.{own_and_parts}
-use Rattle.alg_typing.proofs.VarTables.{both_none, not_there}
+use Rattle.alg_typing.proofs.VarTables.{not_there}
 
 -- a numeral without the fault of exponents
 small_exponent : (n : RawNumber) → exponent n ≡ [] → IsExponent n
@@ -40,27 +41,27 @@ module _ (file : File) (text : List ℕ) (may : Bool) where
   exponents_under head (Int n) final in_fields h = All-nil IsExponent
   exponents_under head (Neg' _ (more_of-RawTerm k t _)) final in_fields h = exponents_under k t final in_fields h
   exponents_under head (Add' _ (more_of-RawTerm k t _) _ (more_of-RawTerm l u _)) final in_fields h =
-      let two = both_none _ ((fold_under (node_sorted file text may) l u).faults final in_fields) h in
-      let one = both_none _ ((fold_under (node_sorted file text may) k t).faults final in_fields) two.0 in
+      let two = parts_empty _ ((fold_under (node_sorted file text may) l u).faults final in_fields) h in
+      let one = parts_empty _ ((fold_under (node_sorted file text may) k t).faults final in_fields) two.0 in
       All-append IsExponent _ _ (exponents_under k t final in_fields one.1) (exponents_under l u final in_fields two.1)
   exponents_under head (Sub' _ (more_of-RawTerm k t _) _ (more_of-RawTerm l u _)) final in_fields h =
-      let two = both_none _ ((fold_under (node_sorted file text may) l u).faults final in_fields) h in
-      let one = both_none _ ((fold_under (node_sorted file text may) k t).faults final in_fields) two.0 in
+      let two = parts_empty _ ((fold_under (node_sorted file text may) l u).faults final in_fields) h in
+      let one = parts_empty _ ((fold_under (node_sorted file text may) k t).faults final in_fields) two.0 in
       All-append IsExponent _ _ (exponents_under k t final in_fields one.1) (exponents_under l u final in_fields two.1)
   exponents_under head (Mul' _ (more_of-RawTerm k t _) _ (more_of-RawTerm l u _)) final in_fields h =
-      let two = both_none _ ((fold_under (node_sorted file text may) l u).faults final in_fields) h in
-      let one = both_none _ ((fold_under (node_sorted file text may) k t).faults final in_fields) two.0 in
+      let two = parts_empty _ ((fold_under (node_sorted file text may) l u).faults final in_fields) h in
+      let one = parts_empty _ ((fold_under (node_sorted file text may) k t).faults final in_fields) two.0 in
       All-append IsExponent _ _ (exponents_under k t final in_fields one.1) (exponents_under l u final in_fields two.1)
   exponents_under head (Div' _ (more_of-RawTerm k t _) _ (more_of-RawTerm l u _)) final in_fields h =
-      let all = both_none _ _ h in
-      let two = both_none _ ((fold_under (node_sorted file text may) l u).faults final in_fields) all.1 in
-      let one = both_none _ ((fold_under (node_sorted file text may) k t).faults final in_fields) two.0 in
+      let all = parts_empty _ _ h in
+      let two = parts_empty _ ((fold_under (node_sorted file text may) l u).faults final in_fields) all.1 in
+      let one = parts_empty _ ((fold_under (node_sorted file text may) k t).faults final in_fields) two.0 in
       All-append IsExponent _ _ (exponents_under k t final in_fields one.1) (exponents_under l u final in_fields two.1)
   exponents_under head (Pow' _ (more_of-RawTerm k t _) n) final in_fields h =
-      let parts = both_none (exponent n) _ h in
+      let parts = parts_empty (exponent n) _ h in
       All-cons IsExponent n _ (small_exponent n parts.0) (exponents_under k t final in_fields parts.1)
   exponents_under head (Hom' name _ (more_of-RawTerm k t _)) final in_fields h =
-      let parts = both_none _ _ h in exponents_under k t _ _ parts.1
+      let parts = parts_empty _ _ h in exponents_under k t _ _ parts.1
 
   -- a term without faults of its sorts
   pub small_term : (t : RawTerm) (final : Option ℕ) (in_fields : Bool) → IsWellTerm text t →
@@ -75,9 +76,9 @@ module _ (file : File) (text : List ℕ) (may : Bool) where
       let l = sorted file text may e.left in
       let r = sorted file text may e.right in
       let final = option_or l.own r.own in
-      let three = both_none _ _ h in
-      let two = both_none _ _ three.0 in
-      let one = both_none (l.faults final true) (r.faults final true) two.0 in
+      let three = parts_empty _ _ h in
+      let two = parts_empty _ _ three.0 in
+      let one = parts_empty (l.faults final true) (r.faults final true) two.0 in
       (small_term e.left final true well.left one.0, small_term e.right final true well.right one.1)
 
 module _ (file : File) (text : List ℕ) where
@@ -118,6 +119,6 @@ pub small_options : (file : File) (text : List ℕ) (final : Option ℕ) (at : �
 small_options file text final at methods.Ring h = tt
 small_options file text final at methods.Field h = tt
 small_options file text final at (methods.Nsatz uses power limit) h =
-    let two = both_none _ (option_range 0 MAX_LIMIT limit) h in
-    let one = both_none _ (option_range 1 MAX_POWER power) two.0 in
+    let two = parts_empty _ (option_range 0 MAX_LIMIT limit) h in
+    let one = parts_empty _ (option_range 1 MAX_POWER power) two.0 in
     (small_option 1 MAX_POWER power (omega arith) one.1, small_option 0 MAX_LIMIT limit (omega arith) two.1)

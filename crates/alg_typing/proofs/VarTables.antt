@@ -15,12 +15,8 @@ use Rattle.alg_typing.specs.Faults.{fault_if}
 use Rattle.alg_typing.specs.NameFaults.{new_name, new_names}
 use Rattle.alg_typing.specs.Names.{declared_as}
 use Rattle.alg_typing.specs.Table.{Table, find, IsTableOf, AreNew, var_entries}
+use Rattle.alg_typing.proofs.NumbersInRange.{parts_empty}
 use Rattle.alg_typing.proofs.Tables.{find-push, table_with_var}
-
--- lists that make none have none
-pub both_none : {X : Type 0} (xs ys : List X) → xs ++ ys ≡ [] → (xs ≡ []) × (ys ≡ [])
-both_none [] ys h = (refl, h)
-both_none (x ∷ xs) ys h = cc
 
 -- a fault that is not there
 pub not_there : (b : Bool) (code at : ℕ) → fault_if b code at ≡ [] → b ≡ false
@@ -49,7 +45,7 @@ module _ (file : File) (text : List ℕ) where
   are_new table before number [] has none = tt
   are_new table before number (name ∷ names) has none =
       let key = bytes_at text name in
-      let parts = both_none (new_name file text before name) (new_names file text (key ∷ before) names) none in (
+      let parts = parts_empty (new_name file text before name) (new_names file text (key ∷ before) names) none in (
         none_found (find table key) _ (has key) (not_there _ 6 name.start parts.0),
         are_new (table ++ (key, as_a.Var number) ∷ []) (key ∷ before) (number + 1) names
             (λ other. ap is_some (find-push table key (as_a.Var number) other)

@@ -7,10 +7,10 @@ use Rattle.alg_typing.specs.Additions.{with_hom, with_vars, with_hyp, with_goal}
 use Rattle.alg_typing.specs.NameFaults.{name_faults, new_names}
 use Rattle.alg_typing.specs.Resolved.{extended, vars_of}
 use Rattle.alg_typing.specs.SortFaults.{sort_faults, equation_sorts, may_divide_by}
+use Rattle.alg_typing.proofs.NumbersInRange.{parts_empty}
 use Rattle.alg_typing.proofs.Extended.{extended_is_valid}
 use Rattle.alg_typing.proofs.Faultless.{no_name_faults, no_sort_faults}
 use Rattle.alg_typing.proofs.Small.{small_sides}
-use Rattle.alg_typing.proofs.VarTables.{both_none}
 use Rattle.alg_typing.proofs.known.Declared.extend.Goals as goal
 
 pub add_sort-requires-clause-valid : goal.add_sort-requires-clause-valid
@@ -37,7 +37,7 @@ pub add_vars-requires-clause-fresh : goal.add_vars-requires-clause-fresh
 add_vars-requires-clause-fresh c =
     let file = c.args.self.now in
     let text = c.args.text.now in
-    let all = both_none (new_names file text [] c.in-Vars.names) _
+    let all = parts_empty (new_names file text [] c.in-Vars.names) _
     (sym (ap (name_faults file text) c.in-Vars.is) ∙ no_name_faults file text c.args.raw.now c.requires.faultless) in
     ap (new_names file text []) c.items.ensures ∙ all.0
 
@@ -89,7 +89,7 @@ equation_of-requires-in-Goal-clause-left c =
     let well = subst (IsWellKind text) c.in-Goal.is c.requires.well_read.1.kind in
     let e = c.in-Goal.equation in
     let may = may_divide_by file text c.in-Goal.method in
-    let faults = both_none (equation_sorts file text may e) _
+    let faults = parts_empty (equation_sorts file text may e) _
     (sym (ap (sort_faults file text) c.in-Goal.is) ∙ no_sort_faults file text c.args.raw.now c.requires.faultless) in
     (small_sides file text may e well.0 faults.0).0
 
@@ -100,7 +100,7 @@ equation_of-requires-in-Goal-clause-right c =
     let well = subst (IsWellKind text) c.in-Goal.is c.requires.well_read.1.kind in
     let e = c.in-Goal.equation in
     let may = may_divide_by file text c.in-Goal.method in
-    let faults = both_none (equation_sorts file text may e) _
+    let faults = parts_empty (equation_sorts file text may e) _
     (sym (ap (sort_faults file text) c.in-Goal.is) ∙ no_sort_faults file text c.args.raw.now c.requires.faultless) in
     (small_sides file text may e well.0 faults.0).1
 
