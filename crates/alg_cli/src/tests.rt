@@ -363,3 +363,18 @@ fn without_words_the_usage_is_written_and_nothing_read(rt: HostRuntime) -> Resul
     assert_eq!(rt; sink.bytes(), b"usage\n".as_slice());
     Ok(())
 }
+
+#[test]
+fn each_end_has_its_own_code(rt: HostRuntime) {
+    for (status, code) in [
+        (Status::Done, 0),
+        (Status::NotAll, 1),
+        (Status::Refused, 2),
+        (Status::Usage, 3),
+        (Status::ReadFault, 4),
+        (Status::WriteFault, 5),
+        (Status::NoMemory, 6),
+    ] {
+        assert_eq!(rt; status.code(), code, "{status:?}");
+    }
+}
