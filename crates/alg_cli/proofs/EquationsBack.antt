@@ -26,7 +26,8 @@ use Rattle.alg_cli.proofs.LaidTerms.{laid, space, sign}
 use Rattle.alg_cli.proofs.Placed.{Placed, placed_left, placed_right}
 use Rattle.alg_cli.proofs.Shrinking.{rules}
 use Rattle.alg_cli.proofs.SortRules.{Divides}
-use Rattle.alg_cli.proofs.SortsBack.{term_clear, never_differ, no_cause, own_same as own_back}
+use Rattle.alg_cli.proofs.ClearNodes.{never_differ, no_cause, own_same as own_back}
+use Rattle.alg_cli.proofs.SortsBack.{term_clear}
 use Rattle.alg_cli.proofs.TermsBack.{term_back}
 use Rattle.alg_cli.proofs.UsedBefore.{AreInRange}
 
@@ -103,7 +104,7 @@ module _ (file g : File) (text : List ℕ) (distinct : AreDistinct (names_of g))
         term = back.0;
         names = back.1;
         sorts = (term_clear file g text distinct grows may_divide t e.sort [] kept divides at placed).clear;
-        own = λ b. own_back file g text distinct grows b t ((laid file t).raw at) back.0;
+        own = λ b. own_back g text b t ((laid file t).raw at) back.0;
       }
 
   -- in the front its sides have the sorts that they have in the file

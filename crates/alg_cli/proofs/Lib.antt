@@ -1,4 +1,5 @@
 pub mod Answered
+pub mod ClearNodes
 pub mod Closed
 pub mod ClosedFronts
 pub mod DeclarationsBack

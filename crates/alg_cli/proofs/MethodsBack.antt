@@ -32,7 +32,7 @@ use Rattle.alg_cli.proofs.Closed.{IsClosed}
 use Rattle.alg_cli.proofs.LaidMethods.{use_pieces, use_raw, later_uses, uses_pieces, uses_raw, option_pieces, method_pieces, method_raw}
 use Rattle.alg_cli.proofs.NamesTaken.{two_empty}
 use Rattle.alg_cli.proofs.Placed.{Placed, placed_left, placed_right}
-use Rattle.alg_cli.proofs.SortsBack.{no_cause}
+use Rattle.alg_cli.proofs.ClearNodes.{no_cause}
 use Rattle.alg_cli.proofs.SortRules.{field_passes}
 use Rattle.alg_cli.proofs.UsesBack.{IsUseInRange, use_back, use_clear}
 

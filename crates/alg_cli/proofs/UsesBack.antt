@@ -31,7 +31,7 @@ use Rattle.alg_cli.proofs.LaidTerms.{sign, span, in_parentheses}
 use Rattle.alg_cli.proofs.NamesTaken.{hyp_used, two_empty}
 use Rattle.alg_cli.proofs.Placed.{Placed, placed_left, span_bytes}
 use Rattle.alg_cli.proofs.SortRules.{field_passes}
-use Rattle.alg_cli.proofs.SortsBack.{no_cause}
+use Rattle.alg_cli.proofs.ClearNodes.{no_cause}
 use Rattle.alg_cli.proofs.TermsBack.{hom_used}
 
 -- numbers that are equal don't differ

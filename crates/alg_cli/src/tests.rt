@@ -1,5 +1,6 @@
 //! Runs of the top call, each over memory.
 
+use crate::laws::reads_back;
 use crate::status::Status;
 use crate::top::run;
 use alg_outside::{MemSink, MemSource};
@@ -377,4 +378,9 @@ fn each_end_has_its_own_code(rt: HostRuntime) {
     ] {
         assert_eq!(rt; status.code(), code, "{status:?}");
     }
+}
+
+#[test]
+fn the_law_is_called() {
+    reads_back();
 }
