@@ -21,7 +21,8 @@ both : (file : File) (left right : List Atom) → AreAtoms file left → AreAtom
 both file left right h k = All-append (IsAtomOf file) left right h k
 
 -- the atoms of a term of the file are of the file, under any path of the file
-has_atoms : (file : File) (t : Term) (path : List ℕ) → IsPathOf file path → IsNamed file t → AreAtoms file (leaves path t)
+has_atoms : (file : File) (t : Term) (path : List ℕ) → IsPathOf file path → IsNamed file t →
+    AreAtoms file (leaves path t)
 unfolding fold_term EachNode
 has_atoms file (Var k) path of named =
     All-cons (IsAtomOf file) (record { path = path; var = k }) [] (of, named) (All-nil (IsAtomOf file))

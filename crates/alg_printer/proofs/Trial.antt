@@ -3,6 +3,7 @@ use Rattle.std.proofs.Common.{◌≡◌, ◌<◌, ℕ, zero, suc, List, [], leng
 use Rattle.std.specs.Prelude.{All, IfSome, Option}
 use Rattle.std.proofs.lemmas.List.Elements.{All-nil, All-cons}
 use Rattle.alg_lines.specs.declared.answer.Answer.{Answer}
+use Rattle.alg_terms.specs.AnswerRules.{IsAnswerTerm}
 use Rattle.alg_terms.specs.declared.file.File.{File}
 use Rattle.alg_terms.specs.declared.term.Atom.{Atom}
 use Rattle.alg_terms.specs.declared.term.Term.TheVariants.{Var}
@@ -14,7 +15,7 @@ use Rattle.alg_terms.specs.TermRules.{IsTerm}
 use Rattle.alg_terms.specs.Valid.{IsValid}
 use Rattle.alg_terms.proofs.SmallFile.{small_is_valid}
 use Rattle.alg_printer.specs.Monomials.{goal_atoms}
-use Rattle.alg_printer.specs.Printable.{ArePrintable, IsPrintable, IsAnswerTerm, IsNumeral, IsMonomialOver, IsLineOver, IsStepOver}
+use Rattle.alg_printer.specs.Printable.{ArePrintable, IsPrintable, IsNumeral, IsMonomialOver, IsLineOver, IsStepOver}
 use Rattle.alg_printer.specs.Text.{answer_at}
 use Rattle.alg_printer.specs.Trial.{inverse_answer, image_answer, one_line, one_step, small_answers}
 

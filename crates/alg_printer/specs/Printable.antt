@@ -14,10 +14,8 @@ use Rattle.alg_terms.specs.declared.goals.Method.{Method}
 use Rattle.alg_terms.specs.declared.goals.Method.TheVariants.{ByRing, ByField, ByNsatz}
 use Rattle.alg_terms.specs.declared.limits.TheConstants.{MAX_LITERAL}
 use Rattle.alg_terms.specs.declared.term.Atom.{Atom}
-use Rattle.alg_terms.specs.declared.term.Term.{Term}
+use Rattle.alg_terms.specs.AnswerRules.{IsAnswerTerm}
 use Rattle.alg_terms.specs.Members.{goal_at}
-use Rattle.alg_terms.specs.Sorts.{sort_beside}
-use Rattle.alg_terms.specs.TermRules.{IsTerm, HasNoQuotient, HasFieldQuotients}
 use Rattle.alg_printer.specs.Monomials.{goal_atoms, IsOver}
 use Rattle.alg_printer.specs.Text.{answer_at}
 
@@ -43,16 +41,6 @@ HasForm (ByNsatz uses power limit) Atoms = Unit {0}
 HasForm (ByNsatz uses power limit) Range = Unit {0}
 HasForm (ByNsatz uses power limit) Degree = Unit {0}
 HasForm (ByNsatz uses power limit) _ = ⊥
-
--- quotients stand where a goal by the method may have them
-abbrev pub MayDivide : File → Goal → Method → Term → Type 0
-MayDivide file goal ByField t = HasFieldQuotients file (sort_beside file goal.equation.sort t) t
-MayDivide file goal _ t = HasNoQuotient t
-
--- a term that may stand in the answer to a goal
-pub record IsAnswerTerm (file : File) (goal : Goal) (t : Term) : Type 0 where
-  pub term : IsTerm file t
-  pub quotients : MayDivide file goal goal.method t
 
 -- a number that is printed without a sign, and one that may have a sign
 abbrev pub IsNumeral : ℤ → Type 0

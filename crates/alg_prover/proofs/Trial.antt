@@ -96,8 +96,10 @@ trial_is_valid = record {
   homs = All-nil (IsHom trial);
   vars = All-from_recursion (IsVar trial) trial.vars (lit< tt, tt);
   hyps = All-nil (IsHyp trial);
-  goals = All-from_recursion (IsGoal trial) trial.goals
-      (is_goal (pos 5) (pos 5) (search rules) (search rules), (is_goal (pos 5) (pos 6) (search rules) (search rules), tt));
+  goals = All-from_recursion (IsGoal trial) trial.goals (
+    is_goal (pos 5) (pos 5) (search rules) (search rules),
+    (is_goal (pos 5) (pos 6) (search rules) (search rules), tt),
+  );
   ordered = ordered;
 }
 

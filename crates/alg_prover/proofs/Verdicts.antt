@@ -72,7 +72,8 @@ never_certified constants cert RingVerdict.Degree same = cc
 never_certified constants cert RingVerdict.Proved same = cc
 never_certified constants cert (RingVerdict.No m a b) same = cc
 
-certified_by : {E : Type 0} (u : Ghosts E) → ((method : Method) (file : File) (i : ℕ) (constants : List ℤ) (cert : Cert) →
+certified_by : {E : Type 0} (u : Ghosts E) →
+    ((method : Method) (file : File) (i : ℕ) (constants : List ℤ) (cert : Cert) →
     IsAnswerBy file (goal_at file i).equation method (Certified constants cert) → IsRight u file i [] constants)
 certified_by u ByRing file i constants cert (v, h, same) = absurd (never_certified constants cert v same)
 certified_by u ByField file i constants cert h = absurd h

@@ -1,3 +1,4 @@
+pub mod AnswerRules
 pub mod GoalRules
 pub mod Kinds
 pub mod Members

@@ -1,5 +1,5 @@
 -- What is without fault of sorts has small exponents and options, and the own sorts of terms that were built.
-use Rattle.std.proofs.Common.{◌≡◌, ◌<◌, ◌^◌, ℕ, Bool, true, false, ◌||◌, nat_lt, List, [], ◌∙◌, All, Option, None, Some, arith, IfSome}
+use Rattle.std.proofs.Common.{◌≡◌, ◌<◌, ◌^◌, ℕ, Bool, true, false, ◌||◌, nat_lt, List, [], sym, All, Option, None, Some, arith, IfSome}
 use Rattle.std.specs.Int.RustNames.{unsigned_abs}
 use Rattle.std.specs.Option.{option_or}
 use Rattle.std.proofs.lemmas.Bool.Decides.{nat_tests}
@@ -21,15 +21,11 @@ use Rattle.alg_typing.specs.Resolved.{node_term, term_of, number_at}
 use Rattle.alg_typing.specs.SortFaults.{option_range, equation_sorts, method_sorts, sort_of_sides}
 use Rattle.alg_typing.specs.TermSorts.{sorted, node_sorted, exponent}
 use Rattle.alg_typing.specs.TermsOf.{IsExponent, IsSmallTermOf, HasSmallOptions}
-use Rattle.alg_typing.proofs.NumbersInRange.{parts_empty}
+use Rattle.alg_typing.proofs.GrowingTerms.{or_same}
+use Rattle.alg_typing.proofs.NumbersInRange.{parts_empty, no_fault}
 use Rattle.alg_typing.proofs.RawParts.{own_and_parts}
-use Rattle.alg_typing.proofs.VarTables.{not_there}
-
--- a numeral without the fault of exponents
-small_exponent : (n : RawNumber) → exponent n ≡ [] → IsExponent n
-small_exponent n h =
-    let e = not_there (nat_lt MAX_EXPONENT (unsigned_abs n.value)) 12 n.at h in
-    grind (arith, nat_tests)
+use Rattle.alg_typing.proofs.Resolving.{own_resolved}
+use Rattle.alg_typing.proofs.SortedTerms.{exponent_in_range}
 
 module _ (file : File) (text : List ℕ) (may : Bool) where
   -- the exponents of a node without faults
@@ -59,7 +55,7 @@ module _ (file : File) (text : List ℕ) (may : Bool) where
       All-append IsExponent _ _ (exponents_under k t final in_fields one.1) (exponents_under l u final in_fields two.1)
   exponents_under head (Pow' _ (more_of-RawTerm k t _) n) final in_fields h =
       let parts = parts_empty (exponent n) _ h in
-      All-cons IsExponent n _ (small_exponent n parts.0) (exponents_under k t final in_fields parts.1)
+      All-cons IsExponent n _ (exponent_in_range n parts.0) (exponents_under k t final in_fields parts.1)
   exponents_under head (Hom' name _ (more_of-RawTerm k t _)) final in_fields h =
       let parts = parts_empty _ _ h in exponents_under k t _ _ parts.1
 
@@ -82,35 +78,19 @@ module _ (file : File) (text : List ℕ) (may : Bool) where
       (small_term e.left final true well.left one.0, small_term e.right final true well.right one.1)
 
 module _ (file : File) (text : List ℕ) where
-  -- the own sort of a term that was built is that of the term that was read
-  own-under : (head : ℕ) (n : RawNode) → fold_term (node_sort file) (fold_under (node_term file text) head n)
-      ≡ (fold_under (node_sorted file text false) head n).own
-  unfolding fold_under
-  own-under head (Var name) = fold_term-Var (node_sort file) (number_at file text name)
-  own-under head (Int n) = fold_term-Int (node_sort file) n
-  own-under head (Neg' _ (more_of-RawTerm k t _)) = fold_term-Neg (node_sort file) _ ∙ own-under k t
-  own-under head (Add' _ (more_of-RawTerm k t _) _ (more_of-RawTerm l u _)) =
-      fold_term-Add (node_sort file) _ _ ∙ (λ i. option_or (own-under k t i) (own-under l u i))
-  own-under head (Sub' _ (more_of-RawTerm k t _) _ (more_of-RawTerm l u _)) =
-      fold_term-Sub (node_sort file) _ _ ∙ (λ i. option_or (own-under k t i) (own-under l u i))
-  own-under head (Mul' _ (more_of-RawTerm k t _) _ (more_of-RawTerm l u _)) =
-      fold_term-Mul (node_sort file) _ _ ∙ (λ i. option_or (own-under k t i) (own-under l u i))
-  own-under head (Div' _ (more_of-RawTerm k t _) _ (more_of-RawTerm l u _)) =
-      fold_term-Div (node_sort file) _ _ ∙ (λ i. option_or (own-under k t i) (own-under l u i))
-  own-under head (Pow' _ (more_of-RawTerm k t _) n) = fold_term-Pow (node_sort file) _ _ ∙ own-under k t
-  own-under head (Hom' name _ (more_of-RawTerm k t _)) = fold_term-Hom (node_sort file) (number_at file text name) _
-
+  -- the sort of an equation that was built is that of the one that was read
   pub equation_sort-sides : (e : RawEquation) →
       equation_sort file (term_of file text e.left) (term_of file text e.right) ≡ sort_of_sides file text e
   equation_sort-sides e =
-      λ i. option_or (own-under e.left.head e.left.node i) (own-under e.right.head e.right.node i)
+      sym (or_same _ _ _ _ (own_resolved file text false e.left.head e.left.node)
+      (own_resolved file text false e.right.head e.right.node))
 
 -- an option's numeral without fault
 small_option : (low high : ℕ) (number : Option RawNumber) → high < 2 ^ 32 → option_range low high number ≡ [] →
     IfSome number (λ n. unsigned_abs n.value < 2 ^ 32)
 small_option low high None bound h = tt
 small_option low high (Some n) bound h =
-    let e = not_there (nat_lt (unsigned_abs n.value) low || nat_lt high (unsigned_abs n.value)) 16 n.at h in
+    let e = no_fault (nat_lt (unsigned_abs n.value) low || nat_lt high (unsigned_abs n.value)) 16 n.at h in
     grind (arith, nat_tests)
 
 -- the options of a method without fault

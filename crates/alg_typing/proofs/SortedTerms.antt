@@ -21,7 +21,7 @@ use Rattle.alg_typing.proofs.FreshNames.{recursion_left, recursion_right}
 use Rattle.alg_typing.proofs.Resolving.{agree_if, resolved, sorted_under, own_resolved}
 
 -- an exponent without fault is at most the greatest
-exponent_in_range : (n : RawNumber) → exponent n ≡ [] → unsigned_abs n.value ≤ MAX_EXPONENT
+pub exponent_in_range : (n : RawNumber) → exponent n ≡ [] → unsigned_abs n.value ≤ MAX_EXPONENT
 exponent_in_range n h =
     let low : nat_lt MAX_EXPONENT (unsigned_abs n.value) ≡ false = no_fault _ 12 n.at h in grind (arith, nat_tests)
 

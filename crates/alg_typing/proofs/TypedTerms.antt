@@ -3,6 +3,7 @@ use Rattle.std.proofs.Common.{◌≡◌, ℕ, true, List, [], Option, None, Some
 use Rattle.std.specs.Prelude.{unwrap_or}
 use Rattle.std.specs.Option.{option_or}
 use Rattle.std.proofs.lemmas.List.Elements.{All-nil}
+use Rattle.alg_terms.specs.AnswerRules.{MayDivide, IsAnswerTerm}
 use Rattle.alg_terms.specs.declared.file.File.{File}
 use Rattle.alg_terms.specs.declared.goals.Goal.{Goal}
 use Rattle.alg_terms.specs.declared.goals.Method.{Method}
@@ -12,7 +13,7 @@ use Rattle.alg_terms.specs.Members.{kind_of, target_of}
 use Rattle.alg_tokens.specs.declared.token.Refusal.{Refusal}
 use Rattle.alg_reader.specs.declared.raw.RawTerm.{RawTerm}
 use Rattle.alg_reader.specs.WellRead.{IsWellTerm}
-use Rattle.alg_typing.specs.AnswerTerms.{may_divide, answer_sorts, first_fault_of_term, MayDivide, IsAnswerTerm}
+use Rattle.alg_typing.specs.AnswerTerms.{may_divide, answer_sorts, first_fault_of_term}
 use Rattle.alg_typing.specs.Faults.{first_of}
 use Rattle.alg_typing.specs.NameFaults.{term_names}
 use Rattle.alg_typing.specs.Resolved.{term_of}

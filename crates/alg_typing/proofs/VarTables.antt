@@ -15,13 +15,8 @@ use Rattle.alg_typing.specs.Faults.{fault_if}
 use Rattle.alg_typing.specs.NameFaults.{new_name, new_names}
 use Rattle.alg_typing.specs.Names.{declared_as}
 use Rattle.alg_typing.specs.Table.{Table, find, IsTableOf, AreNew, var_entries}
-use Rattle.alg_typing.proofs.NumbersInRange.{parts_empty}
+use Rattle.alg_typing.proofs.NumbersInRange.{parts_empty, no_fault}
 use Rattle.alg_typing.proofs.Tables.{find-push, table_with_var}
-
--- a fault that is not there
-pub not_there : (b : Bool) (code at : ℕ) → fault_if b code at ≡ [] → b ≡ false
-not_there true code at h = cc
-not_there false code at h = refl
 
 none_found : (x : Option Declaration) (b : Bool) → is_some x ≡ b → b ≡ false → x ≡ None
 none_found None b e h = refl
@@ -46,7 +41,7 @@ module _ (file : File) (text : List ℕ) where
   are_new table before number (name ∷ names) has none =
       let key = bytes_at text name in
       let parts = parts_empty (new_name file text before name) (new_names file text (key ∷ before) names) none in (
-        none_found (find table key) _ (has key) (not_there _ 6 name.start parts.0),
+        none_found (find table key) _ (has key) (no_fault _ 6 name.start parts.0),
         are_new (table ++ (key, as_a.Var number) ∷ []) (key ∷ before) (number + 1) names
             (λ other. ap is_some (find-push table key (as_a.Var number) other)
             ∙ found_more (find table other) _ _ (bytes_eq other key) (as_a.Var number) (has other))

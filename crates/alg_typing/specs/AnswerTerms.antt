@@ -1,13 +1,10 @@
--- Terms of answers to goals of a file: their first faults, and the rules that they keep.
+-- The first faults of terms of answers to goals of a file.
 use Rattle.std.specs.Prelude.{ℕ, Bool, true, false, List, Option, Some, unwrap_or}
 use Rattle.std.specs.Option.{option_or}
 use Rattle.alg_terms.specs.declared.file.File.{File}
 use Rattle.alg_terms.specs.declared.goals.Goal.{Goal}
 use Rattle.alg_terms.specs.declared.goals.Method.{Method}
 use Rattle.alg_terms.specs.declared.goals.Method.TheVariants.{ByField}
-use Rattle.alg_terms.specs.declared.term.Term.{Term}
-use Rattle.alg_terms.specs.Sorts.{sort_beside}
-use Rattle.alg_terms.specs.TermRules.{IsTerm, HasNoQuotient, HasFieldQuotients}
 use Rattle.alg_tokens.specs.declared.token.Refusal.{Refusal}
 use Rattle.alg_reader.specs.declared.raw.RawTerm.{RawTerm}
 use Rattle.alg_typing.specs.Faults.{first_of}
@@ -29,13 +26,3 @@ module _ (file : File) (text : List ℕ) (goal : Goal) where
   -- the first fault of a term: the first of its names, else the first of its sorts
   abbrev pub first_fault_of_term : RawTerm → Option Refusal
   first_fault_of_term t = option_or (first_of (term_names file text t)) (first_of (answer_sorts t))
-
--- quotients of a term at sort s stand where an answer to a goal by this method may have them
-abbrev pub MayDivide : File → Method → ℕ → Term → Type 0
-MayDivide file ByField s t = HasFieldQuotients file s t
-MayDivide file _ s t = HasNoQuotient t
-
--- a term of the file that may stand in an answer to a goal
-pub record IsAnswerTerm (file : File) (goal : Goal) (t : Term) : Type 0 where
-  pub term : IsTerm file t
-  pub quotients : MayDivide file goal.method (sort_beside file goal.equation.sort t) t

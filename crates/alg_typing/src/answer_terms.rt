@@ -1,9 +1,10 @@
 //! Terms of answers to the goals of the file so far.
 
 ghost use Rattle.std.specs.Prelude.{◌≡◌, ◌≤◌, ◌<◌, length, None, Some, IfOk, IfErr};
+ghost use Rattle.alg_terms.specs.AnswerRules.{IsAnswerTerm};
 ghost use Rattle.alg_terms.specs.Members.{goal_at};
 ghost use Rattle.alg_reader.specs.WellRead.{IsWellTerm};
-ghost use Rattle.alg_typing.specs.AnswerTerms.{may_divide, answer_sorts, first_fault_of_term, IsAnswerTerm};
+ghost use Rattle.alg_typing.specs.AnswerTerms.{may_divide, answer_sorts, first_fault_of_term};
 ghost use Rattle.alg_typing.specs.Ends.{Tells};
 ghost use Rattle.alg_typing.specs.Faults.{first_of};
 ghost use Rattle.alg_typing.specs.Resolved.{term_of};

@@ -1,8 +1,9 @@
 use Rattle.std.proofs.Common.{sym, ap, subst, ◌∙◌}
+use Rattle.alg_terms.specs.AnswerRules.{IsAnswerTerm}
 use Rattle.alg_terms.specs.declared.goals.Goal.{Goal}
 use Rattle.alg_terms.specs.declared.term.Term.{Term}
 use Rattle.alg_terms.specs.Members.{goal_at}
-use Rattle.alg_typing.specs.AnswerTerms.{first_fault_of_term, IsAnswerTerm}
+use Rattle.alg_typing.specs.AnswerTerms.{first_fault_of_term}
 use Rattle.alg_typing.specs.Resolved.{term_of}
 use Rattle.alg_typing.proofs.FirstFaults.{memory_tells_nothing, error_tells_nothing}
 use Rattle.alg_typing.proofs.TypedTerms.{small, may_stand}
