@@ -1,4 +1,4 @@
--- The canonical text of a goal's method, cut into pieces, and the raw method that these are, by the place where the text
+-- The canonical text of a goal's method, cut into pieces, and the raw method that these are, by the place where it
 -- begins.
 use Rattle.std.specs.Prelude.{ℕ, ◌+◌, List, [], ◌∷◌, ◌++◌, Some, pos, length, decimal}
 use Rattle.alg_terms.specs.declared.file.File.{File}

@@ -32,7 +32,8 @@ use Rattle.alg_cli.proofs.ClearNodes.{StaysClear, part_clear, own_same, never_di
 module _ (file g : File) (text : List ℕ) (distinct : AreDistinct (names_of g)) (grows : Grows g file)
     (may_divide : Bool) where
   abbrev Clear : Term → Type 0
-  Clear t = (s : ℕ) (above : List ℕ) → Rules g t → Divides g may_divide s above t → StaysClear g text may_divide s above t (laid file t)
+  Clear t = (s : ℕ) (above : List ℕ) → Rules g t → Divides g may_divide s above t →
+      StaysClear g text may_divide s above t (laid file t)
 
   var_clear : (k : ℕ) → Clear (Var k)
   unfolding fold_term fold_under
@@ -49,7 +50,8 @@ module _ (file g : File) (text : List ℕ) (distinct : AreDistinct (names_of g))
       Rattle.alg_reader.specs.declared.raw.RawNode.TheBlock.hidden-the_row-RawTerm-0 denote.Hole.Carrier.hidden
   neg_clear t clear s above rules divides at placed =
       let below = neg_rules g t rules in
-      let part = part_clear g text may_divide s above t (laid file t) 3 (at + 1) (clear s above below divides.1) placed.1 in
+      let part = part_clear g text may_divide s above t (laid file t) 3 (at + 1) (clear s above below divides.1)
+      placed.1 in
       record { back = ap Neg part.back; clear = part.clear }
 
   pow_clear : (t : Term) (n : ℕ) → Clear t → Clear (Pow t n)
@@ -101,7 +103,8 @@ module _ (file g : File) (text : List ℕ) (distinct : AreDistinct (names_of g))
   add_clear t u clear clear' s above rules divides =
       let (left, right) = add_rules g t u rules in
       spaced_clear g text may_divide signs.Plus raw.Add s above t u (Add t u) (laid file t) (laid file u) refl
-      (two_add g text may_divide s above t u rules.parts.0) (clear s above left divides.1) (clear' s above right divides.2)
+      (two_add g text may_divide s above t u rules.parts.0) (clear s above left divides.1)
+      (clear' s above right divides.2)
 
   sub_clear : (t u : Term) → Clear t → Clear u → Clear (Sub t u)
   unfolding fold_term EachNode EachNodeAt Rattle.alg_terms.specs.declared.term.Term.TheBlock.hidden-the_row-Term-0
@@ -109,7 +112,8 @@ module _ (file g : File) (text : List ℕ) (distinct : AreDistinct (names_of g))
   sub_clear t u clear clear' s above rules divides =
       let (left, right) = sub_rules g t u rules in
       spaced_clear g text may_divide signs.Minus raw.Sub s above t u (Sub t u) (laid file t) (laid file u) refl
-      (two_sub g text may_divide s above t u rules.parts.0) (clear s above left divides.1) (clear' s above right divides.2)
+      (two_sub g text may_divide s above t u rules.parts.0) (clear s above left divides.1)
+      (clear' s above right divides.2)
 
   mul_clear : (t u : Term) → Clear t → Clear u → Clear (Mul t u)
   unfolding fold_term EachNode EachNodeAt Rattle.alg_terms.specs.declared.term.Term.TheBlock.hidden-the_row-Term-0
@@ -117,7 +121,8 @@ module _ (file g : File) (text : List ℕ) (distinct : AreDistinct (names_of g))
   mul_clear t u clear clear' s above rules divides =
       let (left, right) = mul_rules g t u rules in
       tight_clear g text may_divide signs.Star raw.Mul s above t u (Mul t u) (laid file t) (laid file u) refl
-      (two_mul g text may_divide s above t u rules.parts.0) (clear s above left divides.1) (clear' s above right divides.2)
+      (two_mul g text may_divide s above t u rules.parts.0) (clear s above left divides.1)
+      (clear' s above right divides.2)
 
   div_clear : (t u : Term) → Clear t → Clear u → Clear (Div t u)
   unfolding fold_term EachNode EachNodeAt Rattle.alg_terms.specs.declared.term.Term.TheBlock.hidden-the_row-Term-0
@@ -125,7 +130,8 @@ module _ (file g : File) (text : List ℕ) (distinct : AreDistinct (names_of g))
   div_clear t u clear clear' s above rules divides =
       let (left, right) = div_rules g t u rules in
       tight_clear g text may_divide signs.Slash raw.Div s above t u (Div t u) (laid file t) (laid file u) refl
-      (two_div g text may_divide s above t u rules.parts.0 divides.0) (clear s above left divides.1) (clear' s above right divides.2)
+      (two_div g text may_divide s above t u rules.parts.0 divides.0) (clear s above left divides.1)
+      (clear' s above right divides.2)
 
   -- each term of the front has no faults
   pub term_clear : (t : Term) → Clear t
