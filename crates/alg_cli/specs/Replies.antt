@@ -5,7 +5,7 @@ use Rattle.alg_lines.specs.declared.answer.Answer.{Answer}
 use Rattle.alg_lines.specs.declared.answer.Answer.TheVariants.{Proved, Certified, No}
 use Rattle.alg_lines.specs.declared.cert.Cert.{Cert}
 use Rattle.alg_meaning.specs.PolynomialOf.{poly_of}
-use Rattle.alg_mono.specs.Mono.{Pairs}
+use Rattle.alg_mono.specs.Mono.{Monomial}
 use Rattle.alg_printer.specs.Text.{text_of}
 use Rattle.alg_prover.specs.Answers.{AreAnswers}
 use Rattle.alg_terms.specs.declared.file.File.{File}
@@ -47,7 +47,7 @@ pub record ProvedAreRight {E : Type 0} (u : Ghosts E) (file : File) (answers : L
 -- the sides of each goal by ring that is answered no are different polynomials
 abbrev pub NoesDiffer : File → List Answer → Type 0
 NoesDiffer file answers =
-    (i : ℕ) (at : Pairs) (left right : ℤ) → slice_get answers i ≡ Some (No at left right) →
+    (i : ℕ) (at : Monomial) (left right : ℤ) → slice_get answers i ≡ Some (No at left right) →
     (goal_at file i).method ≡ ByRing →
     poly_of (goal_at file i).equation.left ≢ poly_of (goal_at file i).equation.right
 

@@ -2,7 +2,7 @@
 use Rattle.std.specs.Prelude.{◌≡◌, ℕ, ℤ, List, [], ◌∷◌, slice_index_or}
 use Rattle.std.specs.Ordering.{nat_cmp}
 use Rattle.alg_mono.specs.Monomials.{falling, mono_times}
-use Rattle.alg_mono.specs.Mono.{Pairs}
+use Rattle.alg_mono.specs.Mono.{Monomial}
 use Rattle.alg_mono.specs.Numbers.{integers}
 use Rattle.alg_mono.specs.Polynomials.{PolyOver, poly_scale, poly_minus}
 use Rattle.alg_lines.specs.declared.cert.Line.{Line}
@@ -17,7 +17,7 @@ abbrev pub line_at : List Polynomial → ℕ → Polynomial
 line_at lines k = slice_index_or ([] ∷ lines) k []
 
 -- c times a monomial times p
-abbrev pub multiple : ℤ → Pairs → Polynomial → Polynomial
+abbrev pub multiple : ℤ → Monomial → Polynomial → Polynomial
 multiple c m p = poly_scale (falling nat_cmp) integers (mono_times nat_cmp) c m p
 
 -- p less q

@@ -1,23 +1,26 @@
 -- The laws for atoms by number.
-use Rattle.std.specs.Prelude.{◌≡◌, ℤ, pos, ◌+ℤ◌, ◌*ℤ◌, [], ◌∷◌, ◌++◌}
+use Rattle.std.specs.Prelude.{◌≡◌, ℤ, pos, ◌+ℤ◌, ◌*ℤ◌, [], ◌++◌}
 use Rattle.std.proofs.Common.{sym, ap, ◌∙◌, arith}
 use lib.IntN.{neg_ℤ}
 use Rattle.std.specs.Ordering.{nat_cmp}
 use Rattle.std.specs.Cmp.{nat_cmp_total, IsTotalOrder}
 use Rattle.std.specs.FinMap.{nat_cmp-IsAntisymmetric, IsAntisymmetric}
-use Rattle.alg_mono.specs.FiniteMaps.{at_key, products, total, Each, IsCanonical}
+use Rattle.alg_mono.specs.FiniteMaps.{at_key, products, total, IsCanonical}
 use Rattle.alg_mono.specs.Numbers.{integers, exponents}
 use Rattle.alg_mono.specs.Monomials.{mono_times, mono_over, falling}
-use Rattle.alg_mono.specs.Mono.{Pairs}
+use Rattle.alg_mono.specs.Mono.{Monomial}
+use Rattle.alg_mono.specs.NumberedPolynomials.{Polynomial, coefficient_of, sum_of}
 use Rattle.alg_mono.specs.Polynomials.{poly_neg}
-use Rattle.alg_mono.specs.Laws.{Poly, at, plus, PolynomialsAreMaps, PolynomialsAreARing, NoZeroDivisors, GrevlexIsItsWords, DivisionIsByProducts, LcmIsLeast}
+use Rattle.alg_mono.specs.Laws.{PolynomialsAreMaps, PolynomialsAreARing, NoZeroDivisors, GrevlexIsItsWords, DivisionIsByProducts, LcmIsLeast}
 use Rattle.alg_mono.proofs.Numbers.{integer_laws, integer_sum}
 use Rattle.alg_mono.proofs.Totals.{total-append, total-products}
 use Rattle.alg_mono.proofs.Canonical.{amount-total, amount-collect, same_canonical}
-use Rattle.alg_mono.proofs.Monomials.{grevlex_total, grevlex_anti, mono_times_comm, mono_times_assoc, one_mono_times}
-use Rattle.alg_mono.proofs.Grevlex.{falling_total, falling_anti, falling-mono_times, grevlex_less, less_grevlex, kept}
+use Rattle.alg_mono.proofs.Monomials.{grevlex_total, grevlex_anti, mono_times_comm, mono_times_assoc}
+use Rattle.alg_mono.proofs.TermOrder.{before_total, before_anti}
+use Rattle.alg_mono.proofs.Powers.{one_product}
+use Rattle.alg_mono.proofs.Grevlex.{falling-mono_times, grevlex_less, less_grevlex, kept}
 use Rattle.alg_mono.proofs.Polynomials.{plus_assoc, plus_comm, zero_plus, times_poly_assoc, times_poly_comm, times_plus}
-use Rattle.alg_mono.proofs.Renaming.{total-neg, at_key-neg, plus_opposite, one_times}
+use Rattle.alg_mono.proofs.Renaming.{total-neg, at_key-neg, plus_opposite}
 use Rattle.alg_mono.proofs.Domain.{no_zero_divisors}
 use Rattle.alg_mono.proofs.Lcm.{times_over, divides_product, exponent-lcm}
 
@@ -27,23 +30,17 @@ o = nat_cmp_total
 anti : IsAntisymmetric nat_cmp
 anti = nat_cmp-IsAntisymmetric
 
-fo : IsTotalOrder (falling nat_cmp)
-fo = falling_total nat_cmp_total nat_cmp-IsAntisymmetric
-
-fa : IsAntisymmetric (falling nat_cmp)
-fa = falling_anti nat_cmp_total nat_cmp-IsAntisymmetric
-
-abbrev key : Pairs → Pairs → ℤ → ℤ
+abbrev key : Monomial → Monomial → ℤ → ℤ
 key m = at_key (falling nat_cmp) integers.amounts m
 
-abbrev Sum : (Pairs → ℤ → ℤ) → Poly → ℤ
+abbrev Sum : (Monomial → ℤ → ℤ) → Polynomial → ℤ
 Sum g p = total (pos 0) ◌+ℤ◌ g p
 
-at-total : (m : Pairs) (p : Poly) → at m p ≡ Sum (key m) p
-at-total m p = amount-total integer_laws.amounts fo fa m p
+at-total : (m : Monomial) (p : Polynomial) → coefficient_of m p ≡ Sum (key m) p
+at-total m p = amount-total integer_laws.amounts before_total before_anti m p
 
-at-collect : (m : Pairs) (p : Poly) → at m (plus [] p) ≡ Sum (key m) p
-at-collect m p = amount-collect integer_laws.amounts fo fa m p ∙ at-total m p
+at-collect : (m : Monomial) (p : Polynomial) → coefficient_of m (sum_of [] p) ≡ Sum (key m) p
+at-collect m p = amount-collect integer_laws.amounts before_total before_anti m p ∙ at-total m p
 
 pub polynomials_are_maps : PolynomialsAreMaps
 polynomials_are_maps = record {
@@ -56,28 +53,24 @@ polynomials_are_maps = record {
   product =
       λ m p q. at-collect m (products (mono_times nat_cmp) ◌*ℤ◌ p q)
       ∙ total-products (mono_times nat_cmp) ◌*ℤ◌ integer_sum (key m) p q;
-  equal = λ p q c d same. same_canonical integer_laws.amounts fo fa p q c.canonical d.canonical same;
+  equal = λ p q c d same. same_canonical integer_laws.amounts before_total before_anti p q c.canonical d.canonical same;
 }
-
-each_times_one : (p : Poly) → Each (λ m. IsCanonical nat_cmp exponents m) p → Each (λ m. mono_times nat_cmp [] m ≡ m) p
-each_times_one [] h = tt
-each_times_one (e ∷ p) h = (one_mono_times o anti e.0 h.0, each_times_one p h.1)
 
 pub polynomials_are_a_ring : PolynomialsAreARing
 polynomials_are_a_ring = record {
-  plus_assoc = plus_assoc integer_laws fo fa;
-  plus_comm = plus_comm integer_laws fo fa;
-  plus_zero = λ p c. zero_plus integer_laws fo fa p c.canonical;
-  opposite = plus_opposite fo fa;
-  times_assoc = times_poly_assoc integer_laws fo fa (mono_times nat_cmp) (mono_times_assoc o anti);
-  times_comm = times_poly_comm integer_laws fo fa (mono_times nat_cmp) (mono_times_comm o anti);
-  times_one = λ p c. one_times integer_laws fo fa (mono_times nat_cmp) [] p c.canonical (each_times_one p c.monomials);
-  distributes = times_plus integer_laws fo fa (mono_times nat_cmp);
+  plus_assoc = plus_assoc integer_laws before_total before_anti;
+  plus_comm = plus_comm integer_laws before_total before_anti;
+  plus_zero = λ p c. zero_plus integer_laws before_total before_anti p c.canonical;
+  opposite = plus_opposite before_total before_anti;
+  times_assoc = times_poly_assoc integer_laws before_total before_anti (mono_times nat_cmp) (mono_times_assoc o anti);
+  times_comm = times_poly_comm integer_laws before_total before_anti (mono_times nat_cmp) (mono_times_comm o anti);
+  times_one = one_product;
+  distributes = times_plus integer_laws before_total before_anti (mono_times nat_cmp);
 }
 
 pub no_divisors_of_zero : NoZeroDivisors
 no_divisors_of_zero p q c d =
-    no_zero_divisors fo fa (mono_times nat_cmp) (mono_times_comm o anti) (λ m. IsCanonical nat_cmp exponents m)
+    no_zero_divisors before_total before_anti (mono_times nat_cmp) (mono_times_comm o anti) (λ m. IsCanonical nat_cmp exponents m)
     (falling-mono_times o anti)
     p q c.canonical d.canonical c.monomials d.monomials
 

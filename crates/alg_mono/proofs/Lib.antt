@@ -21,3 +21,6 @@ mod EmptyLists
 pub mod Sums
 pub mod Quotients
 pub mod Insertion
+pub mod TermOrder
+pub mod Rows
+pub mod Powers

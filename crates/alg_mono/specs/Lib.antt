@@ -5,6 +5,7 @@ pub mod Mono
 pub mod Places
 pub mod Grevlex
 pub mod Polynomials
+pub mod NumberedPolynomials
 pub mod Outcomes
 pub mod Refusals
 pub mod Laws

@@ -3,10 +3,10 @@ use Rattle.std.specs.Prelude.{ℕ, List, ◌≤◌}
 use Rattle.std.specs.Ordering.{nat_cmp}
 use Rattle.alg_mono.specs.Monomials.{exponent}
 
--- an atom's number, then its exponent
-abbrev pub Pairs : Type 0
-Pairs = List (ℕ × ℕ)
+-- a monomial: numbers of atoms with their exponents
+abbrev pub Monomial : Type 0
+Monomial = List (ℕ × ℕ)
 
 -- the pair's exponent is at most that of its atom in m
-abbrev pub FitsIn : Pairs → ℕ × ℕ → Type 0
+abbrev pub FitsIn : Monomial → ℕ × ℕ → Type 0
 FitsIn m pair = pair.1 ≤ exponent nat_cmp pair.0 m

@@ -1,7 +1,7 @@
 ghost use Rattle.std.specs.Prelude.{◌≡◌, ◌≤◌, [], IfOk};
 ghost use Rattle.std.specs.Ordering.{nat_cmp};
 ghost use Rattle.alg_mono.specs.Monomials.{MAX_DEGREE, IsMono, degree, exponent};
-ghost use Rattle.alg_mono.specs.Mono.{Pairs};
+ghost use Rattle.alg_mono.specs.Mono.{Monomial};
 
 use crate::NoMemory;
 use crate::search::search;
@@ -19,7 +19,7 @@ pub struct Mono {
 }
 
 impl Model for Mono {
-    ghost Value = { Pairs };
+    ghost Value = { Monomial };
 
     ghost view = { λ m. m.pairs.items };
 

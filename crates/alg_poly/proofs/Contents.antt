@@ -19,9 +19,10 @@ use Rattle.alg_mono.proofs.Canonical.{both, first, second}
 use Rattle.alg_mono.proofs.Norms.{norm-cons}
 use Rattle.alg_mono.proofs.Numbers.{*ℤ_comm}
 use Rattle.alg_poly.specs.Divisors.{DividesEach, IsContent, times_number}
-use Rattle.alg_poly.specs.Poly.{Monomial, Polynomial, before}
+use Rattle.alg_mono.specs.Mono.{Monomial}
+use Rattle.alg_mono.specs.NumberedPolynomials.{Polynomial, before}
 use Rattle.alg_poly.proofs.Parts.{some_terms}
-use Rattle.alg_poly.proofs.Rows.{some_number}
+use Rattle.alg_mono.proofs.Rows.{some_number}
 
 abbrev Term : Type 0
 Term = Monomial × ℤ

@@ -5,8 +5,9 @@ use Rattle.std.proofs.lemmas.List.{take_more}
 use Rattle.std.specs.declared.cmp.Ordering.TheVariants.{Less}
 use Rattle.alg_mono.proofs.MergeTurns.{drop_at, IsCanonical-drop}
 use Rattle.alg_mono.proofs.Numbers.{integer_laws}
-use Rattle.alg_poly.specs.Poly.{Monomial, Polynomial, before, DifferFirst}
-use Rattle.alg_poly.proofs.Order.{before_total, before_anti}
+use Rattle.alg_mono.specs.Mono.{Monomial}
+use Rattle.alg_mono.specs.NumberedPolynomials.{Polynomial, before, DifferFirst}
+use Rattle.alg_mono.proofs.TermOrder.{before_total, before_anti}
 use Rattle.alg_poly.proofs.Differences.{Term, Falls, differ_behind, differ_at_first, differ_at_second, differ_at_both, differ_at_end, differ_at_other_end}
 
 drop_all : {A : Type 0} (p : List A) (i : ℕ) → length p ≤ i → drop i p ≡ []

@@ -9,8 +9,9 @@ use Rattle.alg_mono.specs.Numbers.{integers, is_zero}
 use Rattle.alg_mono.proofs.Canonical.{both, first, equal, below_less, rest_of, amount-below, amount-first}
 use Rattle.alg_mono.proofs.MergeTurns.{drop_at, IsCanonical-drop}
 use Rattle.alg_mono.proofs.Numbers.{integer_laws}
-use Rattle.alg_poly.specs.Poly.{Monomial, Polynomial, before, coefficient_of, IsLead, DifferFirst}
-use Rattle.alg_poly.proofs.Order.{before_total, before_anti}
+use Rattle.alg_mono.specs.Mono.{Monomial}
+use Rattle.alg_mono.specs.NumberedPolynomials.{Polynomial, before, coefficient_of, IsLead, DifferFirst}
+use Rattle.alg_mono.proofs.TermOrder.{before_total, before_anti}
 
 abbrev pub Term : Type 0
 Term = Monomial × ℤ

@@ -12,7 +12,8 @@ use Rattle.alg_mono.specs.Numbers.{integers}
 use Rattle.alg_mono.specs.Polynomials.{poly_degree}
 use Rattle.alg_mono.proofs.Canonical.{first, second, less}
 use Rattle.alg_mono.proofs.Degrees.{DegreesWithin, degree_within}
-use Rattle.alg_poly.specs.Poly.{Monomial, Polynomial, before}
+use Rattle.alg_mono.specs.Mono.{Monomial}
+use Rattle.alg_mono.specs.NumberedPolynomials.{Polynomial, before}
 
 before_degree : (m n : Monomial) → before m n ≡ Less → degree n ≤ degree m
 before_degree m n e =

@@ -1,10 +1,7 @@
-pub mod Order
 pub mod Leads
 pub mod Turns
 pub mod Limits
-pub mod Rows
 pub mod Parts
-pub mod Powers
 pub mod Zeros
 pub mod Multiples
 pub mod Differences

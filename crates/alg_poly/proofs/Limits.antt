@@ -4,7 +4,7 @@ use Rattle.std.proofs.Common.{ap, ◌∙◌}
 use Rattle.alg_mono.specs.Outcomes.{outcome, sum_outcome}
 use Rattle.alg_mono.specs.Polynomials.{norm, poly_neg}
 use Rattle.alg_mono.proofs.Norms.{norm-poly_neg}
-use Rattle.alg_poly.specs.Poly.{Polynomial}
+use Rattle.alg_mono.specs.NumberedPolynomials.{Polynomial}
 
 -- a difference breaks a rule where the sum does
 pub outcome_of_opposite : (p q r : Polynomial) → r ≡ poly_neg q → sum_outcome p r ≡ sum_outcome p q

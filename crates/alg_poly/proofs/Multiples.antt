@@ -14,7 +14,8 @@ use Rattle.alg_mono.proofs.Degrees.{degree-poly_scale}
 use Rattle.alg_mono.proofs.Each.{Each-collect, Each-products}
 use Rattle.alg_mono.proofs.Norms.{norm-poly_scale}
 use Rattle.alg_mono.proofs.Numbers.{exponent_laws}
-use Rattle.alg_poly.specs.Poly.{Monomial, Polynomial, before, term_of, multiple_of}
+use Rattle.alg_mono.specs.Mono.{Monomial}
+use Rattle.alg_mono.specs.NumberedPolynomials.{Polynomial, before, term_of, multiple_of}
 use Rattle.alg_poly.proofs.Parts.{IsCanonical-product}
 
 every : (p : Polynomial) → Each (λ _. Unit {0}) p

@@ -18,8 +18,9 @@ use Rattle.alg_mono.proofs.Norms.{norm-poly_times}
 use Rattle.alg_mono.proofs.Numbers.{integer_laws}
 use Rattle.alg_mono.proofs.Polynomials.{total-poly_times}
 use Rattle.alg_mono.proofs.Totals.{total-append, total-products}
-use Rattle.alg_poly.specs.Poly.{Monomial, Polynomial, before, sum_of, product_of}
-use Rattle.alg_poly.proofs.Order.{before_total, before_anti}
+use Rattle.alg_mono.specs.Mono.{Monomial}
+use Rattle.alg_mono.specs.NumberedPolynomials.{Polynomial, before, sum_of, product_of}
+use Rattle.alg_mono.proofs.TermOrder.{before_total, before_anti}
 
 module _ (P : Monomial → Type 0) where
   Each-take : (i : ℕ) (p : Polynomial) → Each P p → Each P (take i p)

@@ -8,7 +8,8 @@ use Rattle.std.proofs.lemmas.Int.{fits_signed_mul}
 use Rattle.std.proofs.lemmas.List.{take_more}
 use Rattle.std.proofs.lemmas.List.Sums.{get_or-le-sum_by}
 use Rattle.alg_mono.specs.Polynomials.{MAX, norm, poly_neg}
-use Rattle.alg_poly.specs.Poly.{Monomial, Polynomial}
+use Rattle.alg_mono.specs.Mono.{Monomial}
+use Rattle.alg_mono.specs.NumberedPolynomials.{Polynomial}
 
 -- a coefficient's magnitude is at most the norm
 pub coefficient_small : (p : Polynomial) (i : ℕ) (x : Monomial × ℤ) → i < length p → x ≡ get_or p i x →

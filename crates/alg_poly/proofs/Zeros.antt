@@ -6,8 +6,9 @@ use Rattle.alg_mono.specs.FiniteMaps.{collect, products}
 use Rattle.alg_mono.specs.Monomials.{mono_times}
 use Rattle.alg_mono.specs.Numbers.{integers, is_zero}
 use Rattle.alg_mono.specs.Polynomials.{IsPolynomial}
-use Rattle.alg_poly.specs.Poly.{Monomial, Polynomial, before, term_of, row_of, product_of, multiple_of}
-use Rattle.alg_poly.proofs.Rows.{product_of_term, some_number}
+use Rattle.alg_mono.specs.Mono.{Monomial}
+use Rattle.alg_mono.specs.NumberedPolynomials.{Polynomial, before, term_of, row_of, product_of, multiple_of}
+use Rattle.alg_mono.proofs.Rows.{product_of_term, some_number}
 
 products_with_zero : (p : Polynomial) → products (mono_times nat_cmp) integers.mul p [] ≡ []
 products_with_zero [] = refl

@@ -1,4 +1,4 @@
-pub mod Poly
+pub use Rattle.alg_mono.specs.NumberedPolynomials
 pub mod Divisors
 pub use Rattle.alg_mono.specs.FiniteMaps
 pub use Rattle.alg_mono.specs.Numbers

@@ -4,7 +4,7 @@ ghost use Rattle.std.specs.Prelude.{◌≡◌, ◌↔◌, [], IsTrue, IsNone, Ma
 ghost use Rattle.std.specs.Ordering.{nat_cmp};
 ghost use Rattle.alg_mono.specs.FiniteMaps.{IsCanonical};
 ghost use Rattle.alg_mono.specs.Numbers.{integers};
-ghost use Rattle.alg_poly.specs.Poly.{before, coefficient_of, lead_of, IsLead, DifferFirst};
+ghost use Rattle.alg_mono.specs.NumberedPolynomials.{before, coefficient_of, lead_of, IsLead, DifferFirst};
 
 use crate::poly::Poly;
 use crate::terms::Term;

@@ -5,7 +5,7 @@ ghost use Rattle.std.specs.Int.RustNames.{unsigned_abs};
 ghost use Rattle.std.specs.Ordering.{nat_cmp};
 ghost use Rattle.alg_mono.specs.Monomials.{MAX_DEGREE};
 ghost use Rattle.alg_mono.specs.Polynomials.{IsPoly, MAX, norm, poly_degree};
-ghost use Rattle.alg_poly.specs.Poly.{atom_of, term_of};
+ghost use Rattle.alg_mono.specs.NumberedPolynomials.{atom_of, term_of};
 
 use crate::NoMemory;
 use crate::terms::{Term, norm_of, push_copies};
@@ -30,7 +30,7 @@ pub struct Poly {
 impl Model for Poly {
     ghost use Rattle.std.specs.Ordering.{nat_cmp};
     ghost use Rattle.alg_mono.specs.Polynomials.{IsPoly};
-    ghost use Rattle.alg_poly.specs.Poly.{Polynomial};
+    ghost use Rattle.alg_mono.specs.NumberedPolynomials.{Polynomial};
 
     ghost Value = { Polynomial };
 

@@ -8,7 +8,7 @@ ghost use Rattle.alg_mono.specs.Numbers.{integers};
 ghost use Rattle.alg_mono.specs.Outcomes.{Outcome, product_outcome, power_outcome, scale_outcome};
 ghost use Rattle.alg_mono.specs.Polynomials.{IsPoly, IsPolynomial, MAX, norm, poly_degree};
 ghost use Rattle.alg_mono.specs.Refusals.{Tells};
-ghost use Rattle.alg_poly.specs.Poly.{row_of, product_of, power_of, multiple_of};
+ghost use Rattle.alg_mono.specs.NumberedPolynomials.{row_of, product_of, power_of, multiple_of};
 
 use crate::NoMemory;
 use crate::poly::{GREATEST_DEGREE, GREATEST_NORM, Poly};

@@ -4,7 +4,7 @@ ghost use Rattle.std.specs.Prelude.{◌≡◌, IfOk, IfErr};
 ghost use Rattle.alg_mono.specs.Outcomes.{Outcome, sum_outcome};
 ghost use Rattle.alg_mono.specs.Polynomials.{poly_neg};
 ghost use Rattle.alg_mono.specs.Refusals.{Tells};
-ghost use Rattle.alg_poly.specs.Poly.{sum_of, difference_of};
+ghost use Rattle.alg_mono.specs.NumberedPolynomials.{sum_of, difference_of};
 
 use crate::NoMemory;
 use crate::poly::{GREATEST_NORM, Poly};

@@ -5,7 +5,7 @@ ghost use Rattle.std.specs.Int.RustNames.{unsigned_abs};
 ghost use Rattle.alg_mono.specs.FiniteMaps.{IsCanonical, keep};
 ghost use Rattle.alg_mono.specs.Numbers.{integers};
 ghost use Rattle.alg_mono.specs.Polynomials.{MAX, norm, poly_neg};
-ghost use Rattle.alg_poly.specs.Poly.{before, sum_of};
+ghost use Rattle.alg_mono.specs.NumberedPolynomials.{before, sum_of};
 
 use crate::NoMemory;
 use alg_mono::Mono;

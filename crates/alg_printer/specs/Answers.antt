@@ -7,7 +7,7 @@ use Rattle.alg_lines.specs.declared.answer.Answer.TheVariants.{Proved, Certified
 use Rattle.alg_lines.specs.declared.cert.Cert.{Cert}
 use Rattle.alg_lines.specs.declared.cert.GoalStep.{GoalStep}
 use Rattle.alg_lines.specs.declared.cert.Line.{Line}
-use Rattle.alg_mono.specs.Mono.{Pairs}
+use Rattle.alg_mono.specs.Mono.{Monomial}
 use Rattle.alg_terms.specs.declared.file.File.{File}
 use Rattle.alg_terms.specs.declared.goals.Goal.{Goal}
 use Rattle.alg_terms.specs.declared.term.Atom.{Atom}
@@ -25,7 +25,7 @@ abbrev pub constants_text : List ℤ → List ℕ
 constants_text constants = listed (codes " if ") (codes ", ") (λ c. signed_decimal c ++ codes " <> 0") constants
 
 -- a multiple of a line: the factor, the monomial, the line's number
-abbrev pub multiple_text : File → List Atom → ℤ → Pairs → ℕ → List ℕ
+abbrev pub multiple_text : File → List Atom → ℤ → Monomial → ℕ → List ℕ
 multiple_text file atoms a m i = signed_decimal a ++ codes ", " ++ mono_text file atoms m ++ codes ", " ++ decimal i
 
 -- the divisor of a combination, at the end of its line
@@ -55,7 +55,7 @@ cert_text file atoms constants cert =
     ++ flat_map (step_text file atoms) cert.steps
 
 -- the greatest monomial where the sides differ, and its coefficients
-abbrev pub no_text : File → List Atom → Pairs → ℤ → ℤ → List ℕ
+abbrev pub no_text : File → List Atom → Monomial → ℤ → ℤ → List ℕ
 no_text file atoms at left right =
     codes "  no at " ++ mono_text file atoms at ++ codes " : " ++ signed_decimal left ++ codes " and "
     ++ signed_decimal right ++ codes ".\n"

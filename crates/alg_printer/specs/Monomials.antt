@@ -1,6 +1,6 @@
 -- The text of a monomial over a goal's atoms.
 use Rattle.std.specs.Prelude.{◌<◌, ℕ, List, [], ◌∷◌, ◌++◌, codes, decimal, length, All, nat_lt, nat_le, if◌then◌else◌, slice_index_or}
-use Rattle.alg_mono.specs.Mono.{Pairs}
+use Rattle.alg_mono.specs.Mono.{Monomial}
 use Rattle.alg_terms.specs.declared.file.File.{File}
 use Rattle.alg_terms.specs.declared.goals.Goal.{Goal}
 use Rattle.alg_terms.specs.declared.term.Atom.{Atom}
@@ -33,11 +33,11 @@ abbrev pub factor_text : File → List Atom → ℕ × ℕ → List ℕ
 factor_text file atoms e = atom_text file (atom_at atoms e.0) ++ exponent_text e.1
 
 -- factors with `*` between
-abbrev pub factors_text : File → List Atom → Pairs → List ℕ
+abbrev pub factors_text : File → List Atom → Monomial → List ℕ
 factors_text file atoms m = listed [] (codes "*") (factor_text file atoms) m
 
 -- a monomial: 1, or its factors
-abbrev pub mono_text : File → List Atom → Pairs → List ℕ
+abbrev pub mono_text : File → List Atom → Monomial → List ℕ
 mono_text file atoms [] = codes "1"
 mono_text file atoms (e ∷ m) = factors_text file atoms (e ∷ m)
 
@@ -46,5 +46,5 @@ abbrev pub IsAtomOf : File → Atom → Type 0
 IsAtomOf file atom = IsPathOf file atom.path × (atom.var < length file.vars)
 
 -- the atoms of a monomial are among these
-abbrev pub IsOver : List Atom → Pairs → Type 0
+abbrev pub IsOver : List Atom → Monomial → Type 0
 IsOver atoms m = All (λ e. e.0 < length atoms) m

@@ -6,7 +6,7 @@ use Rattle.alg_lines.specs.declared.answer.Answer.TheVariants.{Proved, Certified
 use Rattle.alg_lines.specs.declared.cert.Cert.{Cert}
 use Rattle.alg_lines.specs.declared.cert.GoalStep.{GoalStep}
 use Rattle.alg_lines.specs.declared.cert.Line.{Line}
-use Rattle.alg_mono.specs.Mono.{Pairs}
+use Rattle.alg_mono.specs.Mono.{Monomial}
 use Rattle.alg_mono.specs.Monomials.{IsMono}
 use Rattle.alg_terms.specs.declared.file.File.{File}
 use Rattle.alg_terms.specs.declared.goals.Goal.{Goal}
@@ -50,7 +50,7 @@ abbrev pub IsInteger : ℤ → Type 0
 IsInteger n = unsigned_abs n < 2 ^ 127
 
 -- a monomial over these atoms, within the limits
-pub record IsMonomialOver (atoms : List Atom) (m : Pairs) : Type 0 where
+pub record IsMonomialOver (atoms : List Atom) (m : Monomial) : Type 0 where
   pub canonical : IsMono nat_cmp m
   pub over : IsOver atoms m
 

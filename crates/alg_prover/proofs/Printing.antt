@@ -9,7 +9,7 @@ use mir.Syntax.{w128}
 use Rattle.std.specs.Ordering.{nat_cmp}
 use Rattle.alg_lines.specs.declared.answer.Answer.TheVariants.{No}
 use Rattle.alg_mono.specs.FiniteMaps.{Each}
-use Rattle.alg_mono.specs.Mono.{Pairs}
+use Rattle.alg_mono.specs.Mono.{Monomial}
 use Rattle.alg_mono.specs.Monomials.{IsMono}
 use Rattle.alg_mono.specs.Polynomials.{MAX}
 use Rattle.alg_printer.specs.Monomials.{goal_atoms, IsOver}
@@ -26,7 +26,7 @@ use Rattle.alg_terms.specs.GoalRules.{IsEquation}
 use Rattle.alg_terms.specs.Members.{uses_of}
 
 -- the atoms of a monomial are among as many
-each_over : (atoms : List Atom) (m : Pairs) → Each (λ k. k < length atoms) m → IsOver atoms m
+each_over : (atoms : List Atom) (m : Monomial) → Each (λ k. k < length atoms) m → IsOver atoms m
 each_over atoms [] h = All-nil (λ (e : ℕ × ℕ). e.0 < length atoms)
 each_over atoms (e ∷ m) h = All-cons (λ (e : ℕ × ℕ). e.0 < length atoms) e m h.0 (each_over atoms m h.1)
 
@@ -59,7 +59,7 @@ both_handed P left right l r h =
     subst (λ n. P n (handed right)) (sym (same_handed left l)) (subst (P left) (sym (same_handed right r)) h)
 
 -- the answer no can be printed
-pub no_is_printable : NoIsOverTheTable → NoIsWithinRange → (file : File) (goal : Goal) (at : Pairs) (left right : ℤ) →
+pub no_is_printable : NoIsOverTheTable → NoIsWithinRange → (file : File) (goal : Goal) (at : Monomial) (left right : ℤ) →
     IsEquation file goal.equation → goal.method ≡ ByRing → IsMono nat_cmp at →
     IsRingVerdict file goal.equation (RingVerdict.No at left right) →
     IsPrintable file goal (No at (handed left) (handed right))

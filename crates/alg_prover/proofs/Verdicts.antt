@@ -5,7 +5,7 @@ use Rattle.alg_lines.specs.declared.answer.Answer.{Answer}
 use Rattle.alg_lines.specs.declared.answer.Answer.TheVariants.{Proved, Certified, No}
 use Rattle.alg_lines.specs.declared.cert.Cert.{Cert}
 use Rattle.alg_meaning.specs.PolynomialOf.{poly_of}
-use Rattle.alg_mono.specs.Mono.{Pairs}
+use Rattle.alg_mono.specs.Mono.{Monomial}
 use Rattle.alg_terms.specs.declared.file.File.{File}
 use Rattle.alg_terms.specs.declared.goals.Equation.{Equation}
 use Rattle.alg_terms.specs.declared.goals.Goal.{Goal}
@@ -84,7 +84,7 @@ pub certified_is_right : {E : Type 0} (u : Ghosts E) → CertifiedIsRight u
 certified_is_right u file i constants cert valid low h =
     certified_by u (goal_at file i).method file i constants cert h
 
-no_only : (file : File) (e : Equation) (at : Pairs) (left right : ℤ) (v : RingVerdict) → IsRingVerdict file e v →
+no_only : (file : File) (e : Equation) (at : Monomial) (left right : ℤ) (v : RingVerdict) → IsRingVerdict file e v →
     No at left right ≡ answer_of v → IsRingVerdict file e (RingVerdict.No at left right)
 no_only file e at left right RingVerdict.Atoms h same = absurd (cc)
 no_only file e at left right RingVerdict.Range h same = absurd (cc)
@@ -94,7 +94,7 @@ no_only file e at left right (RingVerdict.No m a b) h same =
     let verdict : RingVerdict.No m a b ≡ RingVerdict.No at left right = cc in
     subst (IsRingVerdict file e) verdict h
 
-no_by : reify.NoDiffers → (method : Method) (file : File) (i : ℕ) (at : Pairs) (left right : ℤ) → method ≡ ByRing →
+no_by : reify.NoDiffers → (method : Method) (file : File) (i : ℕ) (at : Monomial) (left right : ℤ) → method ≡ ByRing →
     IsAnswerBy file (goal_at file i).equation method (No at left right) →
     poly_of (goal_at file i).equation.left ≢ poly_of (goal_at file i).equation.right
 no_by law ByRing file i at left right by_ring (v, h, same) =

@@ -4,7 +4,7 @@ use Rattle.alg_lines.specs.declared.answer.Answer.{Answer}
 use Rattle.alg_lines.specs.declared.answer.Answer.TheVariants.{Proved, Certified, No}
 use Rattle.alg_lines.specs.declared.cert.Cert.{Cert}
 use Rattle.alg_meaning.specs.PolynomialOf.{poly_of}
-use Rattle.alg_mono.specs.Mono.{Pairs}
+use Rattle.alg_mono.specs.Mono.{Monomial}
 use Rattle.alg_terms.specs.declared.file.File.{File}
 use Rattle.alg_terms.specs.declared.goals.Method.TheVariants.{ByRing}
 use Rattle.alg_terms.specs.declared.term.Term.{Term}
@@ -33,6 +33,6 @@ CertifiedIsRight u =
 -- the sides of a goal by ring that is answered no are different polynomials
 abbrev pub NoDiffers : Type 0
 NoDiffers =
-    (file : File) (i : ℕ) (at : Pairs) (left right : ℤ) → (goal_at file i).method ≡ ByRing →
+    (file : File) (i : ℕ) (at : Monomial) (left right : ℤ) → (goal_at file i).method ≡ ByRing →
     IsAnswer file (goal_at file i) (No at left right) →
     poly_of (goal_at file i).equation.left ≢ poly_of (goal_at file i).equation.right

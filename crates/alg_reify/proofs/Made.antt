@@ -12,7 +12,7 @@ use Rattle.alg_terms.proofs.Built.{fold_term-Var, fold_term-Int, fold_term-Neg, 
 use Rattle.alg_mono.specs.FiniteMaps.{Each}
 use Rattle.alg_mono.specs.Numbers.{integers}
 use Rattle.alg_mono.specs.Polynomials.{PolyOver, IsPolynomial, poly_neg}
-use Rattle.alg_poly.specs.Poly.{atom_of, term_of, sum_of, difference_of, product_of, power_of}
+use Rattle.alg_mono.specs.NumberedPolynomials.{atom_of, term_of, sum_of, difference_of, product_of, power_of}
 use Rattle.alg_meaning.specs.Atoms.{Polynomial, atom_cmp, put_before, poly_along, poly_under}
 use Rattle.alg_meaning.specs.Orders.{atom_total, atom_anti}
 use Rattle.alg_meaning.specs.PolynomialOf.{node_poly, poly_of, poly_of_under}

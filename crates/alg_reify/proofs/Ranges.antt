@@ -15,8 +15,9 @@ use Rattle.alg_mono.specs.Outcomes.{Outcome, outcome, first_breach, has_zero, no
 use Rattle.alg_mono.specs.Polynomials.{MAX, norm, poly_degree}
 use Rattle.alg_mono.proofs.Norms.{norm-cons, norm-poly_neg, norm-poly_plus, norm-poly_minus, norm-poly_term, norm-poly_times, norm-poly_power}
 use Rattle.alg_mono.proofs.Outcomes.{says_at}
-use Rattle.alg_poly.specs.Poly.{Monomial, before, coefficient_of}
-use Rattle.alg_poly.specs.Poly as numbers
+use Rattle.alg_mono.specs.Mono.{Monomial}
+use Rattle.alg_mono.specs.NumberedPolynomials.{before, coefficient_of}
+use Rattle.alg_mono.specs.NumberedPolynomials as numbers
 use Rattle.alg_meaning.specs.Atoms.{Polynomial, falling, times, plus, minus, times_poly, power_poly, put_before, poly_under}
 use Rattle.alg_meaning.specs.Orders.{atom_total, atom_anti}
 use Rattle.alg_meaning.specs.PolynomialOf.{poly_of}

@@ -12,7 +12,7 @@ use Rattle.alg_mono.specs.declared.ends.Overrun.TheVariants.{Range, Degree, NoMe
 use Rattle.alg_mono.specs.Outcomes.{Outcome, first_breach, sum_outcome, product_outcome, power_outcome}
 use Rattle.alg_mono.specs.Polynomials.{PolyOver, poly_neg}
 use Rattle.alg_mono.specs.Refusals.{Tells}
-use Rattle.alg_poly.specs.Poly.{atom_of, term_of, sum_of, difference_of, product_of, power_of}
+use Rattle.alg_mono.specs.NumberedPolynomials.{atom_of, term_of, sum_of, difference_of, product_of, power_of}
 use Rattle.alg_meaning.specs.PolynomialOf.{poly_of}
 use Rattle.alg_meaning.specs.TermOutcome.{term_outcome}
 use Rattle.alg_meaning.proofs.Built.{term_outcome-Var, term_outcome-Int}

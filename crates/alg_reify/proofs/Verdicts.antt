@@ -17,7 +17,8 @@ use Rattle.alg_mono.proofs.Canonical.{equal}
 use Rattle.alg_mono.proofs.Grevlex.{falling_anti}
 use Rattle.alg_mono.proofs.Monomials.{grevlex_total, grevlex_anti}
 use Rattle.alg_mono.proofs.Numbers.{is_zero_only}
-use Rattle.alg_poly.specs.Poly.{Monomial, Polynomial, before, coefficient_of, DifferFirst}
+use Rattle.alg_mono.specs.Mono.{Monomial}
+use Rattle.alg_mono.specs.NumberedPolynomials.{Polynomial, before, coefficient_of, DifferFirst}
 use Rattle.alg_meaning.specs.Atoms.{atom_cmp}
 use Rattle.alg_meaning.specs.PolynomialOf.{poly_of}
 use Rattle.alg_reify.specs.Table.{leaves}

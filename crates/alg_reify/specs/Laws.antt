@@ -5,7 +5,7 @@ use Rattle.alg_terms.specs.declared.goals.Equation.{Equation}
 use Rattle.alg_terms.specs.GoalRules.{IsEquation}
 use Rattle.alg_mono.specs.FiniteMaps.{Each}
 use Rattle.alg_mono.specs.Polynomials.{MAX}
-use Rattle.alg_poly.specs.Poly.{Monomial}
+use Rattle.alg_mono.specs.Mono.{Monomial}
 use Rattle.alg_meaning.specs.PolynomialOf.{poly_of}
 use Rattle.alg_reify.specs.RingVerdict.{RingVerdict, IsRingVerdict, own_table}
 

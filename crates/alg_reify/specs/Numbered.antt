@@ -6,7 +6,7 @@ use Rattle.alg_terms.specs.declared.term.Atom.{Atom}
 use Rattle.alg_mono.specs.FiniteMaps.{rename}
 use Rattle.alg_mono.specs.Numbers.{exponents, integers}
 use Rattle.alg_mono.specs.Polynomials.{PolyOver}
-use Rattle.alg_poly.specs.Poly.{before}
+use Rattle.alg_mono.specs.NumberedPolynomials.{before}
 use Rattle.alg_reify.specs.Table.{atom_eq}
 
 -- the number of an atom: the first place in the table where it stands, from 0

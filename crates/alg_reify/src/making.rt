@@ -4,7 +4,7 @@ ghost use Rattle.std.specs.Prelude.{◌≡◌, IfOk, IfErr, OnOk, All, Contains}
 ghost use Rattle.alg_terms.specs.TermRules.{IsTerm, HasNoQuotient};
 ghost use Rattle.alg_mono.specs.Outcomes.{Outcome};
 ghost use Rattle.alg_mono.specs.Refusals.{Tells};
-ghost use Rattle.alg_poly.specs.Poly.{atom_of};
+ghost use Rattle.alg_mono.specs.NumberedPolynomials.{atom_of};
 ghost use Rattle.alg_meaning.specs.PolynomialOf.{poly_of_under};
 ghost use Rattle.alg_meaning.specs.TermOutcome.{term_outcome};
 ghost use Rattle.alg_reify.specs.Table.{leaves};

@@ -5,7 +5,7 @@ use Rattle.alg_terms.specs.declared.term.Atom.{Atom}
 use Rattle.alg_terms.specs.declared.file.File.{File}
 use Rattle.alg_terms.specs.declared.goals.Equation.{Equation}
 use Rattle.alg_mono.specs.Outcomes.{Outcome, first_breach}
-use Rattle.alg_poly.specs.Poly.{Polynomial, DifferFirst}
+use Rattle.alg_mono.specs.NumberedPolynomials.{Polynomial, DifferFirst}
 use Rattle.alg_meaning.specs.TermOutcome.{term_outcome}
 use Rattle.alg_reify.specs.Table.{MAX_ATOMS}
 use Rattle.alg_reify.specs.RingVerdict.{ComesTo, IsRingVerdict, own_table}

@@ -2,7 +2,7 @@
 use Rattle.std.specs.Prelude.{◌≡◌}
 use Rattle.alg_terms.specs.declared.file.File.{File}
 use Rattle.alg_terms.specs.declared.goals.Equation.{Equation}
-use Rattle.alg_poly.specs.Poly.{Polynomial, DifferFirst}
+use Rattle.alg_mono.specs.NumberedPolynomials.{Polynomial, DifferFirst}
 use Rattle.alg_reify.specs.declared.stop.Stop.{Stop}
 use Rattle.alg_reify.specs.RingVerdict.{RingVerdict, IsRingVerdict}
 use Rattle.alg_ring.specs.declared.decide.RingAnswer.{RingAnswer}

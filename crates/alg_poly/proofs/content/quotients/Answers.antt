@@ -5,7 +5,7 @@ use mir.Val.{SFits}
 use Rattle.std.specs.Int.RustNames.{int_div}
 use Rattle.std.proofs.lemmas.Int.{ints, to_z-of_z, quot_fits}
 use Rattle.alg_poly.specs.Divisors.{times_number}
-use Rattle.alg_poly.specs.Poly.{Monomial}
+use Rattle.alg_mono.specs.Mono.{Monomial}
 use Rattle.alg_poly.proofs.Contents.{quotient_more}
 use Rattle.alg_poly.proofs.content.quotients.Goals as goal
 

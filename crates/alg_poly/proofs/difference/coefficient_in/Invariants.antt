@@ -1,5 +1,5 @@
 use Rattle.std.proofs.Common.{◌≡◌, drop}
-use Rattle.alg_poly.specs.Poly.{coefficient_of}
+use Rattle.alg_mono.specs.NumberedPolynomials.{coefficient_of}
 use Rattle.alg_poly.proofs.difference.coefficient_in.Given as goal
 
 abbrev pub invariant-loop-term : goal.invariant-loop-term

@@ -4,7 +4,7 @@ use mir.Syntax.{w128}
 use mir.Val.{SFits}
 use Rattle.std.proofs.lemmas.Int.{to_z-of_z}
 use Rattle.std.specs.Ordering.{ordering_reverse}
-use Rattle.alg_poly.proofs.Order.{before_total, before_anti}
+use Rattle.alg_mono.proofs.TermOrder.{before_total, before_anti}
 use Rattle.alg_poly.proofs.DifferenceTurns.{greater_here, greater_there, other_coefficient, same_more, more_here, more_there}
 use Rattle.alg_poly.proofs.difference.first_difference_of.Goals as goal
 use Rattle.alg_poly.proofs.difference.first_difference_of.Goals.{then-loop-i-test+else-i-b, else-loop-i-test}

@@ -8,9 +8,9 @@ use Rattle.alg_mono.specs.FiniteMaps.{IsCanonical}
 use Rattle.alg_mono.specs.Monomials.{MAX_DEGREE}
 use Rattle.alg_mono.specs.Numbers.{integers}
 use Rattle.alg_mono.specs.Polynomials.{IsPolynomial, MAX, norm, poly_degree}
-use Rattle.alg_poly.specs.Poly.{Polynomial, before, sum_of, product_of}
+use Rattle.alg_mono.specs.NumberedPolynomials.{Polynomial, before, sum_of, product_of}
 use Rattle.alg_poly.proofs.Parts.{IsPolynomial-take, IsPolynomial-drop, part_bound, rest_bound, parts_bound, degree-take, degree-drop, product_parts, IsCanonical-product, some_terms}
-use Rattle.alg_poly.proofs.Rows.{product_of_one}
+use Rattle.alg_mono.proofs.Rows.{product_of_one}
 use Rattle.alg_poly.proofs.product.+multiply.Goals as goal
 
 -- one term: its row

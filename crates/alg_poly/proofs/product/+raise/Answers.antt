@@ -4,8 +4,8 @@ use Rattle.std.specs.Ordering.{nat_cmp}
 use Rattle.alg_mono.specs.Monomials.{MAX_DEGREE}
 use Rattle.alg_mono.specs.Numbers.{integers}
 use Rattle.alg_mono.specs.Polynomials.{IsPolynomial, MAX, norm, poly_degree}
-use Rattle.alg_poly.specs.Poly.{Polynomial, product_of, power_of}
-use Rattle.alg_poly.proofs.Powers.{twice_half, half_norm, half_degree, half_sound, square_norm, square_degree, square_is, square_sound, last_norm, last_degree, last_is}
+use Rattle.alg_mono.specs.NumberedPolynomials.{Polynomial, product_of, power_of}
+use Rattle.alg_mono.proofs.Powers.{twice_half, half_norm, half_degree, half_sound, square_norm, square_degree, square_is, square_sound, last_norm, last_degree, last_is}
 use Rattle.alg_poly.proofs.product.+raise.Goals as goal
 
 -- the half of the exponent keeps the limits

@@ -7,8 +7,9 @@ use Rattle.std.proofs.lemmas.List.{take_all}
 use Rattle.std.specs.Ordering.{nat_cmp}
 use Rattle.alg_mono.specs.Monomials.{degree, mono_times, MAX_DEGREE}
 use Rattle.alg_mono.specs.Refusals.{IsOver}
-use Rattle.alg_poly.specs.Poly.{Monomial, row_of}
-use Rattle.alg_poly.proofs.Rows.{row_more, degree_small}
+use Rattle.alg_mono.specs.Mono.{Monomial}
+use Rattle.alg_mono.specs.NumberedPolynomials.{row_of}
+use Rattle.alg_mono.proofs.Rows.{row_more, degree_small}
 use Rattle.alg_poly.proofs.Turns.{product_fits}
 use Rattle.alg_poly.proofs.product.row.Goals as goal
 

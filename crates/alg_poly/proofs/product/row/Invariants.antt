@@ -1,5 +1,5 @@
 use Rattle.std.proofs.Common.{◌≡◌, take}
-use Rattle.alg_poly.specs.Poly.{row_of}
+use Rattle.alg_mono.specs.NumberedPolynomials.{row_of}
 use Rattle.alg_poly.proofs.product.row.Given as goal
 
 abbrev pub invariant-loop-term : goal.invariant-loop-term

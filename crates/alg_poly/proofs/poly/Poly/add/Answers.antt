@@ -6,7 +6,7 @@ use Rattle.alg_mono.specs.FiniteMaps.{IsCanonical}
 use Rattle.alg_mono.specs.Numbers.{integers}
 use Rattle.alg_mono.specs.Polynomials.{IsPoly, MAX, norm}
 use Rattle.alg_mono.proofs.Closure.{IsPoly-plus}
-use Rattle.alg_poly.specs.Poly.{before, sum_of}
+use Rattle.alg_mono.specs.NumberedPolynomials.{before, sum_of}
 use Rattle.alg_poly.proofs.poly.Poly.add.Goals as goal
 
 -- both lists fall, and their sum is within the limits

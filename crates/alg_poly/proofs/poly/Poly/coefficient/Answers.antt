@@ -1,7 +1,7 @@
 use Rattle.std.proofs.Common.{sym, subst}
 use Rattle.alg_mono.specs.FiniteMaps.{IsCanonical}
 use Rattle.alg_mono.specs.Numbers.{integers}
-use Rattle.alg_poly.specs.Poly.{before}
+use Rattle.alg_mono.specs.NumberedPolynomials.{before}
 use Rattle.alg_poly.proofs.poly.Poly.coefficient.Goals as goal
 
 pub coefficient_in-requires : goal.coefficient_in-requires

@@ -3,7 +3,7 @@ use Rattle.std.proofs.Common.{rules, arith, sym, subst}
 use mir.Syntax.{w128}
 use Rattle.std.proofs.lemmas.Int.{ints, to_z_pos}
 use Rattle.alg_poly.specs.Divisors.{IsContent}
-use Rattle.alg_poly.specs.Poly.{Polynomial}
+use Rattle.alg_mono.specs.NumberedPolynomials.{Polynomial}
 use Rattle.alg_poly.proofs.Contents.{content_small, some_length}
 use Rattle.alg_poly.proofs.poly.Poly.content.Goals as goal
 

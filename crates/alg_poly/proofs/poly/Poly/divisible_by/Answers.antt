@@ -2,7 +2,8 @@ use Rattle.std.specs.Prelude.{◌≡◌, ◌%◌, ◌↔◌, ℤ, pos, ◌≤ℤ
 use Rattle.std.proofs.Common.{rules, subst, ◌∙◌}
 use mir.Syntax.{w128}
 use mir.Val.{SFits}
-use Rattle.alg_poly.specs.Poly.{Monomial, Polynomial}
+use Rattle.alg_mono.specs.Mono.{Monomial}
+use Rattle.alg_mono.specs.NumberedPolynomials.{Polynomial}
 use Rattle.alg_poly.proofs.Contents.{divides_each}
 use Rattle.alg_poly.proofs.poly.Poly.divisible_by.Goals as goal
 

@@ -3,7 +3,7 @@ use Rattle.std.proofs.Common.{rules, ap, subst, ◌∙◌}
 use mir.Syntax.{w128}
 use mir.Val.{SFits}
 use Rattle.std.proofs.lemmas.Int.{to_z-of_z}
-use Rattle.alg_poly.specs.Poly.{Polynomial, IsLead}
+use Rattle.alg_mono.specs.NumberedPolynomials.{Polynomial, IsLead}
 use Rattle.alg_poly.proofs.Differences.{leads}
 use Rattle.alg_poly.proofs.poly.Poly.lead.Goals as goal
 

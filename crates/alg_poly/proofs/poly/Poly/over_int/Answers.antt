@@ -5,7 +5,7 @@ use Rattle.std.specs.Ordering.{nat_cmp}
 use Rattle.std.proofs.lemmas.Int.{to_z-of_z}
 use Rattle.alg_mono.specs.Polynomials.{IsPoly}
 use Rattle.alg_poly.specs.Divisors.{IsDivisible}
-use Rattle.alg_poly.specs.Poly.{Polynomial}
+use Rattle.alg_mono.specs.NumberedPolynomials.{Polynomial}
 use Rattle.alg_poly.proofs.Contents.{IsPoly-from_times}
 use Rattle.alg_poly.proofs.poly.Poly.over_int.Goals as goal
 

@@ -6,7 +6,7 @@ use Rattle.std.specs.FinMap.{nat_cmp-IsAntisymmetric}
 use Rattle.alg_mono.specs.Monomials.{MAX_DEGREE}
 use Rattle.alg_mono.specs.Polynomials.{IsPoly, MAX, norm, poly_degree}
 use Rattle.alg_mono.proofs.Closure.{IsPoly-power}
-use Rattle.alg_poly.specs.Poly.{power_of}
+use Rattle.alg_mono.specs.NumberedPolynomials.{power_of}
 use Rattle.alg_poly.proofs.poly.Poly.power.Goals as goal
 
 pub invariant_of-result : goal.invariant_of-result

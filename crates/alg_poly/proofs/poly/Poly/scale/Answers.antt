@@ -6,7 +6,7 @@ use Rattle.std.specs.Ordering.{nat_cmp}
 use Rattle.std.proofs.lemmas.Int.{to_z-of_z}
 use Rattle.alg_mono.specs.Monomials.{MAX_DEGREE, degree}
 use Rattle.alg_mono.specs.Polynomials.{IsPoly, MAX, norm, poly_degree}
-use Rattle.alg_poly.specs.Poly.{row_of, multiple_of}
+use Rattle.alg_mono.specs.NumberedPolynomials.{row_of, multiple_of}
 use Rattle.alg_poly.proofs.Multiples.{IsPoly-multiple}
 use Rattle.alg_poly.proofs.Zeros.{multiple_is_row}
 use Rattle.alg_poly.proofs.poly.Poly.scale.Goals as goal

@@ -7,7 +7,7 @@ use Rattle.std.specs.FinMap.{nat_cmp-IsAntisymmetric}
 use Rattle.alg_mono.specs.Monomials.{MAX_DEGREE}
 use Rattle.alg_mono.specs.Polynomials.{IsPoly, MAX, norm, poly_degree}
 use Rattle.alg_mono.proofs.Closure.{IsPoly-times}
-use Rattle.alg_poly.specs.Poly.{Polynomial, product_of}
+use Rattle.alg_mono.specs.NumberedPolynomials.{Polynomial, product_of}
 use Rattle.alg_poly.proofs.Zeros.{product_with_zero}
 use Rattle.alg_poly.proofs.poly.Poly.times.Goals as goal
 use Rattle.alg_poly.proofs.poly.Poly.times.Goals.{then-is_empty-via-then-is_empty, then-is_empty-via-else-is_empty+then-is_empty-2}

@@ -17,15 +17,15 @@ use Rattle.alg_mono.proofs.Norms.{norm-poly_power}
 use Rattle.alg_mono.proofs.Numbers.{integer_laws}
 use Rattle.alg_mono.proofs.Polynomials.{times_poly_assoc}
 use Rattle.alg_mono.proofs.Renaming.{one_times}
-use Rattle.alg_poly.specs.Poly.{Polynomial, before, product_of, power_of}
-use Rattle.alg_poly.proofs.Order.{before_total, before_anti}
+use Rattle.alg_mono.specs.NumberedPolynomials.{Polynomial, before, product_of, power_of}
+use Rattle.alg_mono.proofs.TermOrder.{before_total, before_anti}
 
 IsPolynomial-power_of : (p : Polynomial) (n : ℕ) → IsPolynomial nat_cmp integers p →
     IsPolynomial nat_cmp integers (power_of p n)
 IsPolynomial-power_of p n h = IsPolynomial-power integer_laws nat_cmp_total nat_cmp-IsAntisymmetric p n h
 
 -- 1 is neutral
-one_product : (p : Polynomial) → IsPolynomial nat_cmp integers p → product_of (([], pos 1) ∷ []) p ≡ p
+pub one_product : (p : Polynomial) → IsPolynomial nat_cmp integers p → product_of (([], pos 1) ∷ []) p ≡ p
 one_product p h =
     one_times integer_laws before_total before_anti (mono_times nat_cmp) [] p h.canonical
     (Each-weaker (λ m c. one_mono_times nat_cmp_total nat_cmp-IsAntisymmetric m c) p h.monomials)

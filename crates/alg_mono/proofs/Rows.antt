@@ -17,8 +17,9 @@ use Rattle.alg_mono.proofs.Domain.{product_some}
 use Rattle.alg_mono.proofs.Grevlex.{falling-mono_times}
 use Rattle.alg_mono.proofs.Monomials.{mono_times_comm}
 use Rattle.alg_mono.proofs.Numbers.{integer_laws, is_zero_only}
-use Rattle.alg_poly.specs.Poly.{Monomial, Polynomial, before, row_of, product_of}
-use Rattle.alg_poly.proofs.Order.{before_total, before_anti}
+use Rattle.alg_mono.specs.Mono.{Monomial}
+use Rattle.alg_mono.specs.NumberedPolynomials.{Polynomial, before, row_of, product_of}
+use Rattle.alg_mono.proofs.TermOrder.{before_total, before_anti}
 
 -- ---- terms at an index
 row-append : (m : Monomial) (c : ℤ) (p : Polynomial) (x : Monomial × ℤ) →

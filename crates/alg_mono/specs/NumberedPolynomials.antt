@@ -1,17 +1,14 @@
 -- Polynomials over atoms by number: the words for finite maps, monomials and polynomials over any
 -- atoms, at the order of numbers.
-use Rattle.std.specs.Prelude.{◌≡◌, ◌≢◌, ℕ, ℤ, pos, ◌*ℤ◌, List, [], ◌∷◌, Option, Some, None}
+use Rattle.std.specs.Prelude.{◌≡◌, ◌≢◌, ℕ, ℤ, pos, ◌*ℤ◌, [], ◌∷◌, Option, Some, None}
 use Rattle.std.specs.declared.cmp.Ordering.{Ordering}
 use Rattle.std.specs.declared.cmp.Ordering.TheVariants.{Less}
 use Rattle.std.specs.Ordering.{nat_cmp}
 use Rattle.alg_mono.specs.FiniteMaps.{row}
 use Rattle.alg_mono.specs.Numbers.{integers}
+use Rattle.alg_mono.specs.Mono.{Monomial}
 use Rattle.alg_mono.specs.Monomials.{falling, grevlex, mono_times}
 use Rattle.alg_mono.specs.Polynomials.{PolyOver, coefficient, poly_term, poly_plus, poly_minus, poly_times, poly_scale, poly_power}
-
--- a monomial: numbers of atoms with their exponents
-abbrev pub Monomial : Type 0
-Monomial = List (ℕ × ℕ)
 
 -- a polynomial: monomials with their coefficients, the greatest monomial first
 abbrev pub Polynomial : Type 0

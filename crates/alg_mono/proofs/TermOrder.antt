@@ -2,7 +2,7 @@
 use Rattle.std.specs.Cmp.{IsTotalOrder, nat_cmp_total}
 use Rattle.std.specs.FinMap.{IsAntisymmetric, nat_cmp-IsAntisymmetric}
 use Rattle.alg_mono.proofs.Grevlex.{falling_total, falling_anti}
-use Rattle.alg_poly.specs.Poly.{before}
+use Rattle.alg_mono.specs.NumberedPolynomials.{before}
 
 pub before_total : IsTotalOrder before
 before_total = falling_total nat_cmp_total nat_cmp-IsAntisymmetric
