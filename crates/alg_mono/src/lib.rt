@@ -3,6 +3,7 @@
 
 mod division;
 mod ends;
+mod form;
 mod from_pairs;
 pub mod laws;
 mod mono;
@@ -11,6 +12,7 @@ mod search;
 mod times;
 
 pub use ends::{MonoEnd, Overrun};
+pub use form::PolynomialForm;
 pub use mono::Mono;
 pub use std::alloc::AllocError as NoMemory;
 

@@ -10,6 +10,7 @@
 
 mod content;
 mod difference;
+mod form;
 mod poly;
 mod product;
 mod sum;

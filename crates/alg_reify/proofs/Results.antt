@@ -22,15 +22,11 @@ use Rattle.alg_reify.proofs.Likes.{sum_like, product_like, power_like}
 use Rattle.alg_reify.proofs.Made.{made, like_made, made-Var, made-Int, made-Neg, made-Add, made-Sub, made-Mul, made-Pow, made-Hom}
 use Rattle.alg_reify.proofs.Parts.{HasPart, HasParts, over_part, over_left, over_right, part-Neg, part-Pow, part-Hom, parts-Add, parts-Sub, parts-Mul}
 
--- what making a polynomial gives
-abbrev Made : Type 0
-Made = Result (PolyOver ℕ) Overrun
-
 -- what a call says one by one
-pub joined : (r : Made) (p x : PolyOver ℕ) (o u : Outcome) → IfOk r (λ q. q ≡ p) → IfOk r (λ q. o ≡ Outcome.Fine) →
-    IfErr r (λ e. Tells e o) → p ≡ x → o ≡ u → Makes x u r
-joined (Ok q) p x o u is fine refused same other = (is ∙ same, sym other ∙ fine)
-joined (Err e) p x o u is fine refused same other = subst (Tells e) other refused
+pub joined : {Q : Type 0} (map : Q → PolyOver ℕ) (r : Result Q Overrun) (p x : PolyOver ℕ) (o u : Outcome) → IfOk r (λ q. map q ≡ p) → IfOk r (λ q. o ≡ Outcome.Fine) →
+    IfErr r (λ e. Tells e o) → p ≡ x → o ≡ u → Makes map x u r
+joined map (Ok q) p x o u is fine refused same other = (is ∙ same, sym other ∙ fine)
+joined map (Err e) p x o u is fine refused same other = subst (Tells e) other refused
 
 -- a rule that is broken first is the one that is told
 first_told : (e : Overrun) (o later : Outcome) → Tells e o → Tells e (first_breach o later)
@@ -39,22 +35,22 @@ first_told Degree o later h = ap (λ x. first_breach x later) h
 first_told NoMemory o later h = tt
 
 -- an error that was handed on tells what it told
-handed_on : (r : Made) (p : PolyOver ℕ) (o : Outcome) (e : Overrun) → IsErrAnd r (λ d. d ≡ e) → Tells e o → Makes p o r
-handed_on (Ok q) p o e came h = absurd came
-handed_on (Err d) p o e came h = let P : Overrun → Type 0 = λ x. Tells x o in subst P (sym came) h
+handed_on : {Q : Type 0} (map : Q → PolyOver ℕ) (r : Result Q Overrun) (p : PolyOver ℕ) (o : Outcome) (e : Overrun) → IsErrAnd r (λ d. d ≡ e) → Tells e o → Makes map p o r
+handed_on map (Ok q) p o e came h = absurd came
+handed_on map (Err d) p o e came h = let P : Overrun → Type 0 = λ x. Tells x o in subst P (sym came) h
 
 -- the part failed
-pub part_failed : (r : Made) (p : PolyOver ℕ) (t part : Term) (path inner : List ℕ) (own : Outcome) (e : Overrun) →
-    HasPart t part path inner own → IsErrAnd r (λ d. d ≡ e) → Tells e (term_outcome part) → Makes p (term_outcome t) r
-part_failed r p t part path inner own e h came told =
-    handed_on r p (term_outcome t) e came
+pub part_failed : {Q : Type 0} (map : Q → PolyOver ℕ) (r : Result Q Overrun) (p : PolyOver ℕ) (t part : Term) (path inner : List ℕ) (own : Outcome) (e : Overrun) →
+    HasPart t part path inner own → IsErrAnd r (λ d. d ≡ e) → Tells e (term_outcome part) → Makes map p (term_outcome t) r
+part_failed map r p t part path inner own e h came told =
+    handed_on map r p (term_outcome t) e came
     (subst (Tells e) (sym h.outcome) (first_told e (term_outcome part) own told))
 
 -- the left part failed
-pub left_failed : (r : Made) (p : PolyOver ℕ) (t a b : Term) (own : Outcome) (e : Overrun) → HasParts t a b own →
-    IsErrAnd r (λ d. d ≡ e) → Tells e (term_outcome a) → Makes p (term_outcome t) r
-left_failed r p t a b own e h came told =
-    handed_on r p (term_outcome t) e came
+pub left_failed : {Q : Type 0} (map : Q → PolyOver ℕ) (r : Result Q Overrun) (p : PolyOver ℕ) (t a b : Term) (own : Outcome) (e : Overrun) → HasParts t a b own →
+    IsErrAnd r (λ d. d ≡ e) → Tells e (term_outcome a) → Makes map p (term_outcome t) r
+left_failed map r p t a b own e h came told =
+    handed_on map r p (term_outcome t) e came
     (subst (Tells e) (sym h.outcome) (first_told e (term_outcome a) (first_breach (term_outcome b) own) told))
 
 -- after the left part the outcome is that of the right part and the node
@@ -64,10 +60,10 @@ after_left t a b own h fine =
     sym (h.outcome ∙ ap (λ o. first_breach o (first_breach (term_outcome b) own)) fine)
 
 -- the right part failed
-pub right_failed : (r : Made) (p : PolyOver ℕ) (t a b : Term) (own : Outcome) (e : Overrun) → HasParts t a b own →
-    IsErrAnd r (λ d. d ≡ e) → term_outcome a ≡ Outcome.Fine → Tells e (term_outcome b) → Makes p (term_outcome t) r
-right_failed r p t a b own e h came fine told =
-    handed_on r p (term_outcome t) e came
+pub right_failed : {Q : Type 0} (map : Q → PolyOver ℕ) (r : Result Q Overrun) (p : PolyOver ℕ) (t a b : Term) (own : Outcome) (e : Overrun) → HasParts t a b own →
+    IsErrAnd r (λ d. d ≡ e) → term_outcome a ≡ Outcome.Fine → Tells e (term_outcome b) → Makes map p (term_outcome t) r
+right_failed map r p t a b own e h came fine told =
+    handed_on map r p (term_outcome t) e came
     (subst (Tells e) (after_left t a b own h fine) (first_told e (term_outcome b) own told))
 
 -- after both parts, the outcome is the node's own
@@ -90,7 +86,8 @@ same_path : (atoms : List Atom) (after path : List ℕ) (b : Term) (q : PolyOver
     IsMade atoms path b q
 same_path atoms after path b q e h = let P : List ℕ → Type 0 = λ x. IsMade atoms x b q in subst P e h
 
-module _ (atoms : List Atom) (path after : List ℕ) (t x y a b : Term) (p q : PolyOver ℕ) (r : Made)
+module _ (atoms : List Atom) (path after : List ℕ) (t x y a b : Term) (p q : PolyOver ℕ)
+    {Q : Type 0} (map : Q → PolyOver ℕ) (r : Result Q Overrun)
     (left : a ≡ x) (right : b ≡ y) (back : after ≡ path) (over : IsOver atoms path t)
     (made_left : IsMade atoms path a p)
     (made_right : IsMade atoms after b q) where
@@ -124,40 +121,40 @@ module _ (atoms : List Atom) (path after : List ℕ) (t x y a b : Term) (p q : P
   at_node node e = ap (made atoms path) (sym (e ∙ (λ i. node (sym left i) (sym right i))))
 
   -- the sum was made, or what broke a rule is told
-  pub sum_made : t ≡ Add x y → IfOk r (λ s. s ≡ sum_of p q) → IfOk r (λ s. sum_outcome p q ≡ Outcome.Fine) →
-      IfErr r (λ e. Tells e (sum_outcome p q)) → Makes (made atoms path t) (term_outcome t) r
+  pub sum_made : t ≡ Add x y → IfOk r (λ s. map s ≡ sum_of p q) → IfOk r (λ s. sum_outcome p q ≡ Outcome.Fine) →
+      IfErr r (λ e. Tells e (sum_outcome p q)) → Makes map (made atoms path t) (term_outcome t) r
   sum_made e is fine refused =
-      joined r (sum_of p q) (made atoms path t) (sum_outcome p q) (term_outcome t) is fine refused
+      joined map r (sum_of p q) (made atoms path t) (sum_outcome p q) (term_outcome t) is fine refused
       ((λ i. sum_of (made_left.0 i) (at_path.0 i)) ∙ sym (made-Add atoms path a b) ∙ at_node Add e)
       (sum_own (parts-Add t x y a b e left right))
 
   -- and so the difference
-  pub difference_made : t ≡ Sub x y → IfOk r (λ s. s ≡ difference_of p q) →
+  pub difference_made : t ≡ Sub x y → IfOk r (λ s. map s ≡ difference_of p q) →
       IfOk r (λ s. sum_outcome p q ≡ Outcome.Fine) →
-      IfErr r (λ e. Tells e (sum_outcome p q)) → Makes (made atoms path t) (term_outcome t) r
+      IfErr r (λ e. Tells e (sum_outcome p q)) → Makes map (made atoms path t) (term_outcome t) r
   difference_made e is fine refused =
-      joined r (difference_of p q) (made atoms path t) (sum_outcome p q) (term_outcome t) is fine refused
+      joined map r (difference_of p q) (made atoms path t) (sum_outcome p q) (term_outcome t) is fine refused
       ((λ i. difference_of (made_left.0 i) (at_path.0 i)) ∙ sym (made-Sub atoms path a b) ∙ at_node Sub e)
       (sum_own (parts-Sub t x y a b e left right))
 
   -- and the product
-  pub product_made : t ≡ Mul x y → IfOk r (λ s. s ≡ product_of p q) →
+  pub product_made : t ≡ Mul x y → IfOk r (λ s. map s ≡ product_of p q) →
       IfOk r (λ s. product_outcome (p ∷ q ∷ []) ≡ Outcome.Fine) →
-      IfErr r (λ e. Tells e (product_outcome (p ∷ q ∷ []))) → Makes (made atoms path t) (term_outcome t) r
+      IfErr r (λ e. Tells e (product_outcome (p ∷ q ∷ []))) → Makes map (made atoms path t) (term_outcome t) r
   product_made e is fine refused =
-      joined r (product_of p q) (made atoms path t) (product_outcome (p ∷ q ∷ [])) (term_outcome t) is fine refused
+      joined map r (product_of p q) (made atoms path t) (product_outcome (p ∷ q ∷ [])) (term_outcome t) is fine refused
       ((λ i. product_of (made_left.0 i) (at_path.0 i)) ∙ sym (made-Mul atoms path a b) ∙ at_node Mul e)
       (product_own (parts-Mul t x y a b e left right))
 
 module _ (atoms : List Atom) (path : List ℕ) (t x part : Term) (p : PolyOver ℕ) (is : part ≡ x) where
   -- the power
-  pub power_made : (n : ℕ) (r : Made) → IsOver atoms path t → IsMade atoms path part p → t ≡ Pow x n →
-      IfOk r (λ s. s ≡ power_of p n) → IfOk r (λ s. power_outcome p n ≡ Outcome.Fine) →
-      IfErr r (λ e. Tells e (power_outcome p n)) → Makes (made atoms path t) (term_outcome t) r
-  power_made n r over h e made_is fine refused =
+  pub power_made : {Q : Type 0} (map : Q → PolyOver ℕ) (n : ℕ) (r : Result Q Overrun) → IsOver atoms path t → IsMade atoms path part p → t ≡ Pow x n →
+      IfOk r (λ s. map s ≡ power_of p n) → IfOk r (λ s. power_outcome p n ≡ Outcome.Fine) →
+      IfErr r (λ e. Tells e (power_outcome p n)) → Makes map (made atoms path t) (term_outcome t) r
+  power_made map n r over h e made_is fine refused =
       let own = power_outcome (poly_of part) n in
       let has = part-Pow path t x part n e is in
-      joined r (power_of p n) (made atoms path t) (power_outcome p n) (term_outcome t) made_is fine refused
+      joined map r (power_of p n) (made atoms path t) (power_outcome p n) (term_outcome t) made_is fine refused
       (ap (λ q. power_of q n) h.0 ∙ sym (made-Pow atoms path part n)
       ∙ ap (made atoms path) (sym (e ∙ ap (λ s. Pow s n) (sym is))))
       (ap (λ q. power_outcome q n) h.0

@@ -13,9 +13,9 @@ use Rattle.alg_mono.specs.Refusals.{Tells}
 use Rattle.alg_reify.specs.Table.{leaves}
 
 -- this polynomial is made where no rule is broken, and else the broken rule is told
-abbrev pub Makes : PolyOver ℕ → Outcome → Result (PolyOver ℕ) Overrun → Type 0
-Makes p outcome (Ok q) = (q ≡ p) × (outcome ≡ Outcome.Fine)
-Makes p outcome (Err e) = Tells e outcome
+abbrev pub Makes : {Q : Type 0} → (Q → PolyOver ℕ) → PolyOver ℕ → Outcome → Result Q Overrun → Type 0
+Makes map p outcome (Ok q) = (map q ≡ p) × (outcome ≡ Outcome.Fine)
+Makes map p outcome (Err e) = Tells e outcome
 
 -- a term with literals of the format and no quotients, whose atoms under the path are all in the table
 pub record IsOver (atoms : List Atom) (path : List ℕ) (t : Term) : Type 0 where

@@ -12,7 +12,7 @@ ghost use Rattle.alg_reify.specs.Numbered.{number_of, numbered};
 ghost use Rattle.alg_reify.specs.Making.{Makes, IsOver};
 
 use crate::{Atoms, NoMemory};
-use alg_poly::{Overrun, Poly};
+use alg_mono::{Overrun, PolynomialForm};
 use alg_terms::{Atom, File, Seq, Term};
 use std::alloc::Global;
 
@@ -22,17 +22,17 @@ use std::alloc::Global;
 /// It is made node by node in postorder: `Range` or `Degree` exactly where the first node that breaks
 /// a rule breaks that one. Each node costs one operation on polynomials, and each variable one
 /// look-up of its atom.
-pub fn reify(
+pub fn reify<P: PolynomialForm>(
     alloc: Global,
     file: &File,
     path: &[u32],
     term: &Term,
     table: &Atoms,
-) -> Result<Poly, Overrun>
+) -> Result<P, Overrun>
     requires term { IsTerm file.now term.now }
     requires plain { HasNoQuotient term.now }
     requires held { All (Contains table.now) (leaves path.now term.now) }
-    ensures ok { IfOk result (λ p. p ≡ numbered table.now (poly_of_under path.now term.now)) }
+    ensures ok { IfOk result (λ p. P.map p ≡ numbered table.now (poly_of_under path.now term.now)) }
     ensures fine { OnOk result (term_outcome term.now ≡ Outcome.Fine) }
     ensures refused { IfErr result (λ e. Tells e (term_outcome term.now)) }
 {
@@ -41,41 +41,46 @@ pub fn reify(
 }
 
 /// The polynomial of a term under a path, which is as before at the end.
-fn make(alloc: Global, table: &Atoms, path: &mut Vec<u32>, term: &Term) -> Result<Poly, Overrun>
+fn make<P: PolynomialForm>(
+    alloc: Global,
+    table: &Atoms,
+    path: &mut Vec<u32>,
+    term: &Term,
+) -> Result<P, Overrun>
     requires { IsOver table.now path.old.items term.now }
     ensures path { OnOk result (path.new.items ≡ path.old.items) }
-    ensures makes { Makes (numbered table.now (poly_of_under path.old.items term.now))
+    ensures makes { Makes P.map (numbered table.now (poly_of_under path.old.items term.now))
         (term_outcome term.now) result }
 {
     match term {
-        Term::Int(value) => Ok(Poly::constant(alloc, *value)?),
+        Term::Int(value) => Ok(P::constant(alloc, *value)?),
         Term::Var(var) => Ok(make_atom(alloc, table, path.as_slice(), *var)?),
         Term::Neg(part) => {
-            let part = make(alloc, table, path, part.get())?;
-            Ok(part.neg(alloc)?)
+            let part: P = make(alloc, table, path, part.get())?;
+            Ok(part.opposite(alloc)?)
         }
         Term::Add(left, right) => {
-            let left = make(alloc, table, path, left.get())?;
-            let right = make(alloc, table, path, right.get())?;
-            left.add(alloc, &right)
+            let left: P = make(alloc, table, path, left.get())?;
+            let right: P = make(alloc, table, path, right.get())?;
+            left.plus(alloc, right)
         }
         Term::Sub(left, right) => {
-            let left = make(alloc, table, path, left.get())?;
-            let right = make(alloc, table, path, right.get())?;
-            left.sub(alloc, &right)
+            let left: P = make(alloc, table, path, left.get())?;
+            let right: P = make(alloc, table, path, right.get())?;
+            left.minus(alloc, right)
         }
         Term::Mul(left, right) => {
-            let left = make(alloc, table, path, left.get())?;
-            let right = make(alloc, table, path, right.get())?;
-            left.times(alloc, &right)
+            let left: P = make(alloc, table, path, left.get())?;
+            let right: P = make(alloc, table, path, right.get())?;
+            left.product(alloc, right)
         }
         Term::Pow(part, exponent) => {
-            let part = make(alloc, table, path, part.get())?;
-            part.power(alloc, *exponent)
+            let part: P = make(alloc, table, path, part.get())?;
+            part.raised(alloc, *exponent)
         }
         Term::Hom(morphism, part) => {
             path.push(*morphism)?;
-            let image = make(alloc, table, path, part.get())?;
+            let image: P = make(alloc, table, path, part.get())?;
             path.pop();
             Ok(image)
         }
@@ -84,14 +89,19 @@ fn make(alloc: Global, table: &Atoms, path: &mut Vec<u32>, term: &Term) -> Resul
 }
 
 /// The polynomial that is one atom of the table.
-fn make_atom(alloc: Global, table: &Atoms, path: &[u32], var: u32) -> Result<Poly, NoMemory>
+fn make_atom<P: PolynomialForm>(
+    alloc: Global,
+    table: &Atoms,
+    path: &[u32],
+    var: u32,
+) -> Result<P, NoMemory>
     requires { Contains table.now (record { path = path.now; var = var }) }
     ensures { IfOk result (λ p.
-        p ≡ atom_of (number_of table.now (record { path = path.now; var = var }))) }
+        P.map p ≡ atom_of (number_of table.now (record { path = path.now; var = var }))) }
 {
     let path = Seq::from_vec(Vec::from_slice(alloc, path)?);
     match table.find(&Atom { path, var }) {
-        Some(number) => Poly::atom(alloc, number),
+        Some(number) => P::atom(alloc, number),
         None => unreachable!(),
     }
 }

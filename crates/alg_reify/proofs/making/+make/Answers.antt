@@ -7,191 +7,209 @@ use Rattle.alg_reify.proofs.making.+make.Goals as goal
 
 -- a literal is a constant within the limits
 pub constant-requires : goal.constant-requires
-constant-requires t c =
+constant-requires g t c =
     let small = literal c.args.term.now c.in-Int.value c.in-Int.is c.requires.literals in
     let fits : SFits w128 c.in-Int.value = search rules in
     simp to_z-of_z small
 
 pub returns-in_ok-constant-in-Int-clause-makes : goal.returns-in_ok-constant-in-Int-clause-makes
-returns-in_ok-constant-in-Int-clause-makes t c =
+returns-in_ok-constant-in-Int-clause-makes g t c =
     let fits : SFits w128 c.in-Int.value = search rules in
     constant_made c.args.table.now c.args.path.now.items _ _ _ c.in-Int.is
     (simp to_z-of_z at c.in_ok-constant-in-Int.ensures)
 
 -- a variable is an atom of the table
 pub make_atom-requires : goal.make_atom-requires
-make_atom-requires t c =
+make_atom-requires g t c =
     held_atom c.args.table.now c.args.path.now.items _ _ _ c.in-Var.is c.as_slice.ensures.value c.requires.held
 
 pub returns-in_ok-make_atom-in-Var-clause-makes : goal.returns-in_ok-make_atom-in-Var-clause-makes
-returns-in_ok-make_atom-in-Var-clause-makes t c =
+returns-in_ok-make_atom-in-Var-clause-makes g t c =
     atom_made c.args.table.now c.args.path.now.items _ _ _ _ c.in-Var.is c.as_slice.ensures.value
     c.in_ok-make_atom-in-Var.ensures
 
 -- an opposite
 pub make-requires : goal.make-requires
-make-requires t c =
-    let path = c.args.path.now.items in (
+make-requires g t c =
+    let path = c.args.path.now.items in λ κs h. (
       search (rules, the_lemmas),
-      over_part c.args.table.now path path _ _ _
-          (part-Neg path _ _ _ c.in-Neg.is c.get.ensures) c.requires,
+      (
+        h,
+        over_part c.args.table.now path path _ _ _
+            (part-Neg path _ _ _ c.in-Neg.is c.get.ensures) c.requires,
+      ),
     )
 
 pub returns-in_err-part-in-Neg-clause-makes : goal.returns-in_err-part-in-Neg-clause-makes
-returns-in_err-part-in-Neg-clause-makes t c =
+returns-in_err-part-in-Neg-clause-makes g t c =
     let path = c.args.path.now.items in
-    part_failed _ _ _ _ path path _ _ (part-Neg path _ _ _ c.in-Neg.is c.get.ensures)
+    part_failed g.P.PolynomialForm.map _ _ _ _ path path _ _ (part-Neg path _ _ _ c.in-Neg.is c.get.ensures)
     c.from_residual-in_err-part-in-Neg.ensures.1
     c.in_err-part-in-Neg.ensures.makes
 
-pub returns-in_ok-neg-in-Neg-clause-makes : goal.returns-in_ok-neg-in-Neg-clause-makes
-returns-in_ok-neg-in-Neg-clause-makes t c =
+pub returns-in_ok-opposite-in-Neg-clause-makes : goal.returns-in_ok-opposite-in-Neg-clause-makes
+returns-in_ok-opposite-in-Neg-clause-makes g t c =
     opposite_made c.args.table.now c.args.path.now.items _ _ _ _ c.get.ensures _ c.in_ok-part-in-Neg.ensures.makes
     c.in-Neg.is
-    c.in_ok-neg-in-Neg.ensures
+    c.in_ok-opposite-in-Neg.ensures
 
 -- a power
 pub make-requires-in-Pow : goal.make-requires-in-Pow
-make-requires-in-Pow t c =
-    let path = c.args.path.now.items in (
+make-requires-in-Pow g t c =
+    let path = c.args.path.now.items in λ κs h. (
       search (rules, the_lemmas),
-      over_part c.args.table.now path path _ _ _ (part-Pow path _ _ _ _ c.in-Pow.is c.get-in-Pow.ensures) c.requires,
+      (h, over_part c.args.table.now path path _ _ _ (part-Pow path _ _ _ _ c.in-Pow.is c.get-in-Pow.ensures) c.requires),
     )
 
 pub returns-in_err-part-in-Pow-clause-makes : goal.returns-in_err-part-in-Pow-clause-makes
-returns-in_err-part-in-Pow-clause-makes t c =
+returns-in_err-part-in-Pow-clause-makes g t c =
     let path = c.args.path.now.items in
-    part_failed _ _ _ _ path path _ _ (part-Pow path _ _ _ _ c.in-Pow.is c.get-in-Pow.ensures)
+    part_failed g.P.PolynomialForm.map _ _ _ _ path path _ _ (part-Pow path _ _ _ _ c.in-Pow.is c.get-in-Pow.ensures)
     c.from_residual-in_err-part-in-Pow.ensures.1 c.in_err-part-in-Pow.ensures.makes
 
 pub returns-in_ok-part-in-Pow-clause-makes : goal.returns-in_ok-part-in-Pow-clause-makes
-returns-in_ok-part-in-Pow-clause-makes t c =
-    let e = c.power.ensures in
-    power_made c.args.table.now c.args.path.now.items _ _ _ _ c.get-in-Pow.ensures _ _ c.requires
+returns-in_ok-part-in-Pow-clause-makes g t c =
+    let e = c.raised.ensures in
+    power_made c.args.table.now c.args.path.now.items _ _ _ _ c.get-in-Pow.ensures g.P.PolynomialForm.map _ _ c.requires
     c.in_ok-part-in-Pow.ensures.makes
     c.in-Pow.is e.power e.fine e.refused
 
 -- an image
 pub make-requires-in-Hom : goal.make-requires-in-Hom
-make-requires-in-Hom t c =
-    let path = c.args.path.now.items in (
+make-requires-in-Hom g t c =
+    let path = c.args.path.now.items in λ κs h. (
       search (rules, the_lemmas),
-      over_inner c.args.table.now path _ _ _ _ (part-Hom path _ _ _ _ c.in-Hom.is c.get-in-Hom.ensures) c.requires _
-          c.in_ok-push-in-Hom.ensures.items,
+      (
+        h,
+        over_inner c.args.table.now path _ _ _ _ (part-Hom path _ _ _ _ c.in-Hom.is c.get-in-Hom.ensures) c.requires _
+            c.in_ok-push-in-Hom.ensures.items,
+      ),
     )
 
 pub returns-in_err-image-in-Hom-clause-makes : goal.returns-in_err-image-in-Hom-clause-makes
-returns-in_err-image-in-Hom-clause-makes t c =
+returns-in_err-image-in-Hom-clause-makes g t c =
     let path = c.args.path.now.items in
-    part_failed _ _ _ _ path _ _ _ (part-Hom path _ _ _ _ c.in-Hom.is c.get-in-Hom.ensures)
+    part_failed g.P.PolynomialForm.map _ _ _ _ path _ _ _ (part-Hom path _ _ _ _ c.in-Hom.is c.get-in-Hom.ensures)
     c.from_residual-in_err-image-in-Hom.ensures.1 c.in_err-image-in-Hom.ensures.makes
 
 pub returns-in_ok-image-in-Hom-clause-makes : goal.returns-in_ok-image-in-Hom-clause-makes
-returns-in_ok-image-in-Hom-clause-makes t c =
+returns-in_ok-image-in-Hom-clause-makes g t c =
     image_made c.args.table.now c.args.path.now.items _ _ _ _ c.get-in-Hom.ensures _ _ c.in_ok-push-in-Hom.ensures.items
     c.in_ok-image-in-Hom.ensures.makes c.in-Hom.is
 
 -- there are no quotients
 pub unreachable-requires : goal.unreachable-requires
-unreachable-requires t c = divides _ _ _ c.in-Div.is c.requires.plain
+unreachable-requires g t c = divides _ _ _ c.in-Div.is c.requires.plain
 
 -- a sum: its parts, what they tell, and the sum
 pub make-requires-in-Add : goal.make-requires-in-Add
-make-requires-in-Add t c = (
+make-requires-in-Add g t c = λ κs h. (
   search (rules, the_lemmas),
-  over_left c.args.table.now _ _ _ _ _ (parts-Add _ _ _ _ _ c.in-Add.is c.get-in-Add.ensures refl) c.requires,
+  (h, over_left c.args.table.now _ _ _ _ _ (parts-Add _ _ _ _ _ c.in-Add.is c.get-in-Add.ensures refl) c.requires),
 )
 
 pub returns-in_err-left-in-Add-clause-makes : goal.returns-in_err-left-in-Add-clause-makes
-returns-in_err-left-in-Add-clause-makes t c =
-    left_failed _ _ _ _ _ _ _ (parts-Add _ _ _ _ _ c.in-Add.is c.get-in-Add.ensures refl)
+returns-in_err-left-in-Add-clause-makes g t c =
+    left_failed g.P.PolynomialForm.map _ _ _ _ _ _ _ (parts-Add _ _ _ _ _ c.in-Add.is c.get-in-Add.ensures refl)
     c.from_residual-in_err-left-in-Add.ensures.1 c.in_err-left-in-Add.ensures.makes
 
 pub make-requires-in-Add-2 : goal.make-requires-in-Add-2
-make-requires-in-Add-2 t c = (
+make-requires-in-Add-2 g t c = λ κs h. (
   search (rules, the_lemmas),
-  over_right_after c.args.table.now _ _ _ _ _
-      (parts-Add _ _ _ _ _ c.in-Add.is c.get-in-Add.ensures c.get-in-Add-2.ensures) c.requires _
-      c.in_ok-left-in-Add.ensures.path,
+  (
+    h,
+    over_right_after c.args.table.now _ _ _ _ _
+        (parts-Add _ _ _ _ _ c.in-Add.is c.get-in-Add.ensures c.get-in-Add-2.ensures) c.requires _
+        c.in_ok-left-in-Add.ensures.path,
+  ),
 )
 
 pub returns-in_err-right-in-Add-clause-makes : goal.returns-in_err-right-in-Add-clause-makes
-returns-in_err-right-in-Add-clause-makes t c =
-    right_failed _ _ _ _ _ _ _ (parts-Add _ _ _ _ _ c.in-Add.is c.get-in-Add.ensures c.get-in-Add-2.ensures)
+returns-in_err-right-in-Add-clause-makes g t c =
+    right_failed g.P.PolynomialForm.map _ _ _ _ _ _ _ (parts-Add _ _ _ _ _ c.in-Add.is c.get-in-Add.ensures c.get-in-Add-2.ensures)
     c.from_residual-in_err-right-in-Add.ensures.1 c.in_ok-left-in-Add.ensures.makes.1
     c.in_err-right-in-Add.ensures.makes
 
 pub returns-in_ok-right-in-Add-clause-makes : goal.returns-in_ok-right-in-Add-clause-makes
-returns-in_ok-right-in-Add-clause-makes t c =
-    let e = c.add.ensures in
-    sum_made c.args.table.now c.args.path.now.items c.make-in-Add.new.path.items _ _ _ _ _ _ _ _ c.get-in-Add.ensures
+returns-in_ok-right-in-Add-clause-makes g t c =
+    let e = c.plus.ensures in
+    sum_made c.args.table.now c.args.path.now.items c.make-in-Add.new.path.items _ _ _ _ _ _ _
+    g.P.PolynomialForm.map _ c.get-in-Add.ensures
     c.get-in-Add-2.ensures c.in_ok-left-in-Add.ensures.path c.requires c.in_ok-left-in-Add.ensures.makes
     c.in_ok-right-in-Add.ensures.makes c.in-Add.is e.sum e.fine e.refused
 
 -- a difference: its parts, what they tell, and the difference
 pub make-requires-in-Sub : goal.make-requires-in-Sub
-make-requires-in-Sub t c = (
+make-requires-in-Sub g t c = λ κs h. (
   search (rules, the_lemmas),
-  over_left c.args.table.now _ _ _ _ _ (parts-Sub _ _ _ _ _ c.in-Sub.is c.get-in-Sub.ensures refl) c.requires,
+  (h, over_left c.args.table.now _ _ _ _ _ (parts-Sub _ _ _ _ _ c.in-Sub.is c.get-in-Sub.ensures refl) c.requires),
 )
 
 pub returns-in_err-left-in-Sub-clause-makes : goal.returns-in_err-left-in-Sub-clause-makes
-returns-in_err-left-in-Sub-clause-makes t c =
-    left_failed _ _ _ _ _ _ _ (parts-Sub _ _ _ _ _ c.in-Sub.is c.get-in-Sub.ensures refl)
+returns-in_err-left-in-Sub-clause-makes g t c =
+    left_failed g.P.PolynomialForm.map _ _ _ _ _ _ _ (parts-Sub _ _ _ _ _ c.in-Sub.is c.get-in-Sub.ensures refl)
     c.from_residual-in_err-left-in-Sub.ensures.1 c.in_err-left-in-Sub.ensures.makes
 
 pub make-requires-in-Sub-2 : goal.make-requires-in-Sub-2
-make-requires-in-Sub-2 t c = (
+make-requires-in-Sub-2 g t c = λ κs h. (
   search (rules, the_lemmas),
-  over_right_after c.args.table.now _ _ _ _ _
-      (parts-Sub _ _ _ _ _ c.in-Sub.is c.get-in-Sub.ensures c.get-in-Sub-2.ensures) c.requires _
-      c.in_ok-left-in-Sub.ensures.path,
+  (
+    h,
+    over_right_after c.args.table.now _ _ _ _ _
+        (parts-Sub _ _ _ _ _ c.in-Sub.is c.get-in-Sub.ensures c.get-in-Sub-2.ensures) c.requires _
+        c.in_ok-left-in-Sub.ensures.path,
+  ),
 )
 
 pub returns-in_err-right-in-Sub-clause-makes : goal.returns-in_err-right-in-Sub-clause-makes
-returns-in_err-right-in-Sub-clause-makes t c =
-    right_failed _ _ _ _ _ _ _ (parts-Sub _ _ _ _ _ c.in-Sub.is c.get-in-Sub.ensures c.get-in-Sub-2.ensures)
+returns-in_err-right-in-Sub-clause-makes g t c =
+    right_failed g.P.PolynomialForm.map _ _ _ _ _ _ _ (parts-Sub _ _ _ _ _ c.in-Sub.is c.get-in-Sub.ensures c.get-in-Sub-2.ensures)
     c.from_residual-in_err-right-in-Sub.ensures.1 c.in_ok-left-in-Sub.ensures.makes.1
     c.in_err-right-in-Sub.ensures.makes
 
 pub returns-in_ok-right-in-Sub-clause-makes : goal.returns-in_ok-right-in-Sub-clause-makes
-returns-in_ok-right-in-Sub-clause-makes t c =
-    let e = c.sub.ensures in
-    difference_made c.args.table.now c.args.path.now.items c.make-in-Sub.new.path.items _ _ _ _ _ _ _ _
+returns-in_ok-right-in-Sub-clause-makes g t c =
+    let e = c.minus.ensures in
+    difference_made c.args.table.now c.args.path.now.items c.make-in-Sub.new.path.items _ _ _ _ _ _ _
+    g.P.PolynomialForm.map _
     c.get-in-Sub.ensures
     c.get-in-Sub-2.ensures c.in_ok-left-in-Sub.ensures.path c.requires c.in_ok-left-in-Sub.ensures.makes
     c.in_ok-right-in-Sub.ensures.makes c.in-Sub.is e.difference e.fine e.refused
 
 -- a product: its parts, what they tell, and the product
 pub make-requires-in-Mul : goal.make-requires-in-Mul
-make-requires-in-Mul t c = (
+make-requires-in-Mul g t c = λ κs h. (
   search (rules, the_lemmas),
-  over_left c.args.table.now _ _ _ _ _ (parts-Mul _ _ _ _ _ c.in-Mul.is c.get-in-Mul.ensures refl) c.requires,
+  (h, over_left c.args.table.now _ _ _ _ _ (parts-Mul _ _ _ _ _ c.in-Mul.is c.get-in-Mul.ensures refl) c.requires),
 )
 
 pub returns-in_err-left-in-Mul-clause-makes : goal.returns-in_err-left-in-Mul-clause-makes
-returns-in_err-left-in-Mul-clause-makes t c =
-    left_failed _ _ _ _ _ _ _ (parts-Mul _ _ _ _ _ c.in-Mul.is c.get-in-Mul.ensures refl)
+returns-in_err-left-in-Mul-clause-makes g t c =
+    left_failed g.P.PolynomialForm.map _ _ _ _ _ _ _ (parts-Mul _ _ _ _ _ c.in-Mul.is c.get-in-Mul.ensures refl)
     c.from_residual-in_err-left-in-Mul.ensures.1 c.in_err-left-in-Mul.ensures.makes
 
 pub make-requires-in-Mul-2 : goal.make-requires-in-Mul-2
-make-requires-in-Mul-2 t c = (
+make-requires-in-Mul-2 g t c = λ κs h. (
   search (rules, the_lemmas),
-  over_right_after c.args.table.now _ _ _ _ _
-      (parts-Mul _ _ _ _ _ c.in-Mul.is c.get-in-Mul.ensures c.get-in-Mul-2.ensures) c.requires _
-      c.in_ok-left-in-Mul.ensures.path,
+  (
+    h,
+    over_right_after c.args.table.now _ _ _ _ _
+        (parts-Mul _ _ _ _ _ c.in-Mul.is c.get-in-Mul.ensures c.get-in-Mul-2.ensures) c.requires _
+        c.in_ok-left-in-Mul.ensures.path,
+  ),
 )
 
 pub returns-in_err-right-in-Mul-clause-makes : goal.returns-in_err-right-in-Mul-clause-makes
-returns-in_err-right-in-Mul-clause-makes t c =
-    right_failed _ _ _ _ _ _ _ (parts-Mul _ _ _ _ _ c.in-Mul.is c.get-in-Mul.ensures c.get-in-Mul-2.ensures)
+returns-in_err-right-in-Mul-clause-makes g t c =
+    right_failed g.P.PolynomialForm.map _ _ _ _ _ _ _ (parts-Mul _ _ _ _ _ c.in-Mul.is c.get-in-Mul.ensures c.get-in-Mul-2.ensures)
     c.from_residual-in_err-right-in-Mul.ensures.1 c.in_ok-left-in-Mul.ensures.makes.1
     c.in_err-right-in-Mul.ensures.makes
 
 pub returns-in_ok-right-in-Mul-clause-makes : goal.returns-in_ok-right-in-Mul-clause-makes
-returns-in_ok-right-in-Mul-clause-makes t c =
-    let e = c.times.ensures in
-    product_made c.args.table.now c.args.path.now.items c.make-in-Mul.new.path.items _ _ _ _ _ _ _ _
+returns-in_ok-right-in-Mul-clause-makes g t c =
+    let e = c.product.ensures in
+    product_made c.args.table.now c.args.path.now.items c.make-in-Mul.new.path.items _ _ _ _ _ _ _
+    g.P.PolynomialForm.map _
     c.get-in-Mul.ensures
     c.get-in-Mul-2.ensures c.in_ok-left-in-Mul.ensures.path c.requires c.in_ok-left-in-Mul.ensures.makes
     c.in_ok-right-in-Mul.ensures.makes c.in-Mul.is e.product e.fine e.refused

@@ -4,7 +4,7 @@ use Rattle.alg_reify.proofs.making.reify.Goals as goal
 
 -- the copy of the path is the path
 pub make-requires : goal.make-requires
-make-requires c =
+make-requires g c =
     let P : List ℕ → Type 0 = λ path. All (Contains c.args.table.now) (leaves path c.args.term.now) in
     record {
       literals = c.requires.term.literals;
