@@ -3,8 +3,10 @@
 ghost use Rattle.std.specs.Prelude.{◌↔◌};
 ghost use Rattle.alg_terms.specs.declared.declarations.Kind.TheVariants.{Domain};
 ghost use Rattle.alg_terms.specs.declared.file.File.{File};
+ghost use Rattle.alg_mono.specs.Laws.{PolynomialsAreMaps};
 ghost use Rattle.alg_universe.specs.DeclaredSorts.{HasKindsTo};
 ghost use Rattle.alg_universe.specs.Value.{Fits};
+ghost use Rattle.alg_meaning.specs.Atoms.{atom_cmp};
 ghost use Rattle.alg_meaning.specs.ConditionWords.{ConditionsSay};
 ghost use Rattle.alg_meaning.specs.FractionValues.{SidesAreFractions, EqualNumerators};
 ghost use Rattle.alg_meaning.specs.FreeValues.{AtomsAreValues, ValuesArePolynomials, DifferentPolynomials};
@@ -13,6 +15,12 @@ ghost use Rattle.alg_meaning.specs.Uses.{UsesHold};
 
 use crate::Free;
 use alg_universe::Universe;
+
+/// The coefficients of sums, opposites and products of polynomials over atoms are the usual ones, and
+/// equal coefficients make equal polynomials.
+pub fn polynomials_are_maps()
+    ensures { PolynomialsAreMaps atom_cmp }
+{}
 
 /// Two terms without quotients and of one final sort, whose polynomials are equal, have equal values
 /// in every universe that fits the file, at all values of the variables.

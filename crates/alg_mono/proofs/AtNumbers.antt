@@ -1,26 +1,19 @@
 -- The laws for atoms by number.
-use Rattle.std.specs.Prelude.{◌≡◌, ℤ, pos, ◌+ℤ◌, ◌*ℤ◌, [], ◌++◌}
-use Rattle.std.proofs.Common.{sym, ap, ◌∙◌, arith}
-use lib.IntN.{neg_ℤ}
+use Rattle.std.proofs.Common.{arith}
 use Rattle.std.specs.Ordering.{nat_cmp}
 use Rattle.std.specs.Cmp.{nat_cmp_total, IsTotalOrder}
 use Rattle.std.specs.FinMap.{nat_cmp-IsAntisymmetric, IsAntisymmetric}
-use Rattle.alg_mono.specs.FiniteMaps.{at_key, products, total, IsCanonical}
-use Rattle.alg_mono.specs.Numbers.{integers, exponents}
-use Rattle.alg_mono.specs.Monomials.{mono_times, mono_over, falling}
-use Rattle.alg_mono.specs.Mono.{Monomial}
-use Rattle.alg_mono.specs.NumberedPolynomials.{Polynomial, coefficient_of, sum_of}
-use Rattle.alg_mono.specs.Polynomials.{poly_neg}
-use Rattle.alg_mono.specs.Laws.{PolynomialsAreMaps, PolynomialsAreARing, NoZeroDivisors, GrevlexIsItsWords, DivisionIsByProducts, LcmIsLeast}
-use Rattle.alg_mono.proofs.Numbers.{integer_laws, integer_sum}
-use Rattle.alg_mono.proofs.Totals.{total-append, total-products}
-use Rattle.alg_mono.proofs.Canonical.{amount-total, amount-collect, same_canonical}
+use Rattle.alg_mono.specs.FiniteMaps.{IsCanonical}
+use Rattle.alg_mono.specs.Numbers.{exponents}
+use Rattle.alg_mono.specs.Monomials.{mono_times, mono_over}
+use Rattle.alg_mono.specs.Laws.{PolynomialsAreARing, NoZeroDivisors, GrevlexIsItsWords, DivisionIsByProducts, LcmIsLeast}
+use Rattle.alg_mono.proofs.Numbers.{integer_laws}
 use Rattle.alg_mono.proofs.Monomials.{grevlex_total, grevlex_anti, mono_times_comm, mono_times_assoc}
 use Rattle.alg_mono.proofs.TermOrder.{before_total, before_anti}
 use Rattle.alg_mono.proofs.Powers.{one_product}
 use Rattle.alg_mono.proofs.Grevlex.{falling-mono_times, grevlex_less, less_grevlex, kept}
 use Rattle.alg_mono.proofs.Polynomials.{plus_assoc, plus_comm, zero_plus, times_poly_assoc, times_poly_comm, times_plus}
-use Rattle.alg_mono.proofs.Renaming.{total-neg, at_key-neg, plus_opposite}
+use Rattle.alg_mono.proofs.Renaming.{plus_opposite}
 use Rattle.alg_mono.proofs.Domain.{no_zero_divisors}
 use Rattle.alg_mono.proofs.Lcm.{times_over, divides_product, exponent-lcm}
 
@@ -29,32 +22,6 @@ o = nat_cmp_total
 
 anti : IsAntisymmetric nat_cmp
 anti = nat_cmp-IsAntisymmetric
-
-abbrev key : Monomial → Monomial → ℤ → ℤ
-key m = at_key (falling nat_cmp) integers.amounts m
-
-abbrev Sum : (Monomial → ℤ → ℤ) → Polynomial → ℤ
-Sum g p = total (pos 0) ◌+ℤ◌ g p
-
-at-total : (m : Monomial) (p : Polynomial) → coefficient_of m p ≡ Sum (key m) p
-at-total m p = amount-total integer_laws.amounts before_total before_anti m p
-
-at-collect : (m : Monomial) (p : Polynomial) → coefficient_of m (sum_of [] p) ≡ Sum (key m) p
-at-collect m p = amount-collect integer_laws.amounts before_total before_anti m p ∙ at-total m p
-
-pub polynomials_are_maps : PolynomialsAreMaps
-polynomials_are_maps = record {
-  sum =
-      λ m p q. at-collect m (p ++ q) ∙ total-append integer_sum (key m) p q
-      ∙ sym (λ i. at-total m p i +ℤ at-total m q i);
-  opposite =
-      λ m p. at-total m (poly_neg p) ∙ total-neg (key m) (λ n c. at_key-neg (falling nat_cmp) m n c) p
-      ∙ ap neg_ℤ (sym (at-total m p));
-  product =
-      λ m p q. at-collect m (products (mono_times nat_cmp) ◌*ℤ◌ p q)
-      ∙ total-products (mono_times nat_cmp) ◌*ℤ◌ integer_sum (key m) p q;
-  equal = λ p q c d same. same_canonical integer_laws.amounts before_total before_anti p q c.canonical d.canonical same;
-}
 
 pub polynomials_are_a_ring : PolynomialsAreARing
 polynomials_are_a_ring = record {

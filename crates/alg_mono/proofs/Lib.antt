@@ -15,6 +15,7 @@ pub mod Degrees
 pub mod Outcomes
 pub mod Closure
 mod AtNumbers
+pub mod Maps
 pub mod Domain
 pub mod Renaming
 mod EmptyLists

@@ -1,6 +1,7 @@
--- What holds of the definitions alone, for atoms by number.
-use Rattle.std.specs.Prelude.{◌≡◌, ◌≢◌, ◌↔◌, ℕ, ℤ, pos, ◌+ℤ◌, ◌*ℤ◌, [], ◌∷◌, cond}
+-- What holds of the definitions alone.
+use Rattle.std.specs.Prelude.{◌≡◌, ◌≢◌, ◌↔◌, ℕ, ℤ, pos, ◌+ℤ◌, ◌*ℤ◌, List, [], ◌∷◌, cond}
 use lib.IntN.{neg_ℤ}
+use Rattle.std.specs.declared.cmp.Ordering.{Ordering}
 use Rattle.std.specs.declared.cmp.Ordering.TheVariants.{Less, Equal}
 use Rattle.std.specs.Ordering.{nat_cmp, eq_by_cmp}
 use Rattle.std.specs.Cmp.{IsTotalOrder}
@@ -9,23 +10,29 @@ use Rattle.alg_mono.specs.Numbers.{integers}
 use Rattle.alg_mono.specs.Monomials.{IsMono, Divides, mono_times, lcm, grevlex, falling}
 use Rattle.alg_mono.specs.Grevlex.{IsBelow}
 use Rattle.alg_mono.specs.Mono.{Monomial}
-use Rattle.alg_mono.specs.NumberedPolynomials.{Polynomial, coefficient_of, sum_of, product_of}
-use Rattle.alg_mono.specs.Polynomials.{IsPolynomial, poly_neg}
+use Rattle.alg_mono.specs.NumberedPolynomials.{Polynomial, sum_of, product_of}
+use Rattle.alg_mono.specs.Polynomials.{PolyOver, IsPolynomial, coefficient, poly_plus, poly_times, poly_neg}
 use Rattle.alg_mono.specs.Outcomes.{outcome, Says}
 
--- the sum of the products of two coefficients over all pairs of terms whose monomials multiply to m
-abbrev pub sum_over_pairs : Monomial → Polynomial → Polynomial → ℤ
-sum_over_pairs m p q =
-    total (pos 0) ◌+ℤ◌ (λ a c. total (pos 0) ◌+ℤ◌ (λ b d.
-    cond (eq_by_cmp (falling nat_cmp) m (mono_times nat_cmp a b)) (c *ℤ d) (pos 0)) q) p
+module _ {K : Type 0} (cmp : K → K → Ordering) where
+  -- the coefficient of p at m
+  abbrev pub at : List (K × ℕ) → PolyOver K → ℤ
+  at m p = coefficient (falling cmp) integers m p
 
--- sums, opposites and products are the usual ones, and polynomials with equal coefficients are equal
-pub record PolynomialsAreMaps : Type 0 where
-  pub sum : (m : Monomial) (p q : Polynomial) → coefficient_of m (sum_of p q) ≡ coefficient_of m p +ℤ coefficient_of m q
-  pub opposite : (m : Monomial) (p : Polynomial) → coefficient_of m (poly_neg p) ≡ neg_ℤ (coefficient_of m p)
-  pub product : (m : Monomial) (p q : Polynomial) → coefficient_of m (product_of p q) ≡ sum_over_pairs m p q
-  pub equal : (p q : Polynomial) → IsPolynomial nat_cmp integers p → IsPolynomial nat_cmp integers q →
-      ((m : Monomial) → coefficient_of m p ≡ coefficient_of m q) → p ≡ q
+  -- the sum of the products of two coefficients over all pairs of terms whose monomials multiply to m
+  abbrev pub sum_over_pairs : List (K × ℕ) → PolyOver K → PolyOver K → ℤ
+  sum_over_pairs m p q =
+      total (pos 0) ◌+ℤ◌ (λ a c. total (pos 0) ◌+ℤ◌ (λ b d.
+      cond (eq_by_cmp (falling cmp) m (mono_times cmp a b)) (c *ℤ d) (pos 0)) q) p
+
+  -- over any atoms, sums, opposites and products are the usual ones, and polynomials with equal coefficients are equal
+  pub record PolynomialsAreMaps : Type 0 where
+    pub sum : (m : List (K × ℕ)) (p q : PolyOver K) → at m (poly_plus (falling cmp) integers p q) ≡ at m p +ℤ at m q
+    pub opposite : (m : List (K × ℕ)) (p : PolyOver K) → at m (poly_neg p) ≡ neg_ℤ (at m p)
+    pub product : (m : List (K × ℕ)) (p q : PolyOver K) →
+        at m (poly_times (falling cmp) integers (mono_times cmp) p q) ≡ sum_over_pairs m p q
+    pub equal : (p q : PolyOver K) → IsPolynomial cmp integers p → IsPolynomial cmp integers q →
+        ((m : List (K × ℕ)) → at m p ≡ at m q) → p ≡ q
 
 -- polynomials are a commutative ring
 pub record PolynomialsAreARing : Type 0 where

@@ -1,11 +1,12 @@
 //! Laws of the definitions. A call does nothing: its contract is the law.
 
+ghost use Rattle.std.specs.Ordering.{nat_cmp};
 ghost use Rattle.alg_mono.specs.Laws.{PolynomialsAreMaps, PolynomialsAreARing, NoZeroDivisors, GrevlexIsItsWords, DivisionIsByProducts, LcmIsLeast, OutcomesSay};
 
 /// The coefficients of sums, opposites and products are the usual ones, and equal coefficients make
 /// equal polynomials.
 pub fn polynomials_are_maps()
-    ensures { PolynomialsAreMaps }
+    ensures { PolynomialsAreMaps nat_cmp }
 {}
 
 /// Polynomials are a commutative ring.

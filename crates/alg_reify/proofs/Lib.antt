@@ -1,5 +1,6 @@
 pub mod Along
 pub mod AtomsIn
+pub mod Coefficients
 pub mod Held
 pub mod Images
 pub mod Insertions

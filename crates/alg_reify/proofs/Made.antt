@@ -18,11 +18,11 @@ use Rattle.alg_meaning.specs.Orders.{atom_total, atom_anti}
 use Rattle.alg_meaning.specs.PolynomialOf.{node_poly, poly_of, poly_of_under}
 use Rattle.alg_meaning.proofs.Canonical.{IsPolynomial-poly_of}
 use Rattle.alg_reify.specs.Table.{leaves}
-use Rattle.alg_reify.specs.Numbered.{number_of, numbered}
+use Rattle.alg_reify.specs.Numbered.{number_of, numbered, atom_at}
 use Rattle.alg_reify.proofs.Along.{along-variable, along-constant, along-neg, along-plus, along-minus, along-times, along-power, along-under, IsPolynomial-along}
 use Rattle.alg_reify.proofs.AtomsIn.{atoms_in}
 use Rattle.alg_reify.proofs.Images.{poly_image, image-plus, image-neg, image-minus, image-times, image-term, image-power}
-use Rattle.alg_reify.proofs.Numbering.{atom_at, contained_numbered}
+use Rattle.alg_reify.proofs.Numbering.{contained_numbered}
 use Rattle.alg_reify.proofs.Undone.{IsLike, IsLike-trans, like_image, poly_back}
 
 -- the polynomial of a term under a path, over the numbers of the table
@@ -106,7 +106,7 @@ like_along (f ∷ path) p is =
 
 module _ (atoms : List Atom) (path : List ℕ) (t : Term) (held : All (Contains atoms) (leaves path t)) where
   -- each atom comes back from its number
-  all_back : Each (λ m. Each (λ a. atom_at atoms (number_of atoms a) ≡ a) m) (poly_of_under path t)
+  pub all_back : Each (λ m. Each (λ a. atom_at atoms (number_of atoms a) ≡ a) m) (poly_of_under path t)
   all_back =
       let Back : Atom → Type 0 = λ a. atom_at atoms (number_of atoms a) ≡ a in
       atoms_in Back path t (recursion_from_All Back (leaves path t)

@@ -4,12 +4,8 @@ use Rattle.std.proofs.lemmas.Bool.Decides.{nat_tests}
 use Rattle.std.proofs.Common.{refl, sym, ap, subst, ◌∙◌, arith}
 use Rattle.alg_terms.specs.declared.term.Atom.{Atom}
 use Rattle.alg_reify.specs.Table.{atom_eq}
-use Rattle.alg_reify.specs.Numbered.{number_of}
+use Rattle.alg_reify.specs.Numbered.{number_of, atom_at}
 use Rattle.alg_reify.proofs.Once.{atoms_decide}
-
--- the atom of a number, and some atom where there is none
-abbrev pub atom_at : List Atom → ℕ → Atom
-atom_at atoms k = slice_index_or atoms k (record { path = []; var = 0 })
 
 -- the atom's number is one of the table, and it is the number of this atom
 abbrev pub IsNumbered : List Atom → Atom → Type 0

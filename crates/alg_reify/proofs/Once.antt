@@ -9,7 +9,7 @@ use Rattle.indexmap.specs.IndexSet.{insert_key, insert_all}
 use Rattle.alg_terms.specs.declared.term.Atom.{Atom}
 use Rattle.alg_reify.specs.Table.{atom_eq, each_once}
 
-same_test : (a b : Bool) → (a ≡ true → b ≡ true) → (b ≡ true → a ≡ true) → a ≡ b
+pub same_test : (a b : Bool) → (a ≡ true → b ≡ true) → (b ≡ true → a ≡ true) → a ≡ b
 same_test true true f g = refl
 same_test true false f g = sym (f refl)
 same_test false true f g = g refl

@@ -101,11 +101,11 @@ module _ {K L : Type 0} {ck : K → K → Ordering} {cl : L → L → Ordering}
     (ok : IsTotalOrder ck) (ak : IsAntisymmetric ck) (ol : IsTotalOrder cl) (al : IsAntisymmetric cl)
     (f : K → L) (g : L → K) where
   -- the atom comes back
-  abbrev Back : K → Type 0
+  abbrev pub Back : K → Type 0
   Back k = g (f k) ≡ k
 
   -- the monomials come back, and so the polynomial
-  monos_back : (p : PolyOver K) → Each (λ m. IsCanonical ck exponents m) p → Each (λ m. Each Back m) p →
+  pub monos_back : (p : PolyOver K) → Each (λ m. IsCanonical ck exponents m) p → Each (λ m. Each Back m) p →
       Each (λ m. mono_image cl ck g (mono_image ck cl f m) ≡ m) p
   monos_back [] c h = tt
   monos_back (e ∷ p) c h = (undone exponent_laws ok ak al f g e.0 c.0 h.0, monos_back p c.1 h.1)

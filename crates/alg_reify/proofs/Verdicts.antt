@@ -1,5 +1,5 @@
 -- The verdicts by ring: there is one, and what a verdict No says.
-use Rattle.std.specs.Prelude.{◌≡◌, ◌≢◌, ◌<◌, Bool, true, false, cond, [], ◌∷◌, ℤ, pos, ◌+ℤ◌, length, All, Contains}
+use Rattle.std.specs.Prelude.{◌≡◌, ◌≢◌, ◌<◌, Bool, true, false, cond, List, [], ◌∷◌, ℤ, pos, ◌+ℤ◌, length, All, Contains}
 use Rattle.std.proofs.Common.{refl, sym, ap, subst, ◌∙◌, T, arith}
 use Rattle.std.proofs.lemmas.List.Elements.{recursion_from_All, All-weaker}
 use Rattle.std.proofs.lemmas.Int.{ints}
@@ -7,6 +7,7 @@ use Rattle.std.specs.declared.cmp.Ordering.TheVariants.{Less, Equal, Greater}
 use Rattle.std.specs.Ordering.{nat_cmp, eq_by_cmp, ordering_reverse}
 use Rattle.std.specs.Cmp.{nat_cmp_total}
 use Rattle.std.specs.FinMap.{nat_cmp-IsAntisymmetric}
+use Rattle.alg_terms.specs.declared.term.Atom.{Atom}
 use Rattle.alg_terms.specs.declared.term.Term.{Term}
 use Rattle.alg_terms.specs.declared.file.File.{File}
 use Rattle.alg_terms.specs.declared.goals.Equation.{Equation}
@@ -19,16 +20,24 @@ use Rattle.alg_mono.proofs.Monomials.{grevlex_total, grevlex_anti}
 use Rattle.alg_mono.proofs.Numbers.{is_zero_only}
 use Rattle.alg_mono.specs.Mono.{Monomial}
 use Rattle.alg_mono.specs.NumberedPolynomials.{Polynomial, before, coefficient_of, DifferFirst}
-use Rattle.alg_meaning.specs.Atoms.{atom_cmp}
+use Rattle.alg_mono.specs.Numbers.{integers}
+use Rattle.alg_mono.specs.Polynomials.{coefficient}
+use Rattle.alg_meaning.specs.Atoms.{atom_cmp, falling}
+use Rattle.alg_meaning.specs.Atoms as over
+use Rattle.alg_meaning.specs.Orders.{atom_total, atom_anti}
 use Rattle.alg_meaning.specs.PolynomialOf.{poly_of}
 use Rattle.alg_reify.specs.Table.{leaves}
-use Rattle.alg_reify.specs.Numbered.{number_of, numbered}
-use Rattle.alg_reify.specs.RingVerdict.{RingVerdict, own_table}
+use Rattle.alg_reify.specs.Numbered.{number_of, numbered, numbered_monomial, atom_at, over_atoms}
+use Rattle.alg_reify.specs.RingVerdict.{RingVerdict, IsRingVerdict, own_table}
 use Rattle.alg_reify.specs.Laws.{OneRingVerdict, NoDiffers, NoIsOverTheTable}
 use Rattle.alg_reify.proofs.AtomsIn.{atoms_in}
+use Rattle.alg_reify.proofs.Coefficients.{ComesBack, images_round, coefficient_back}
 use Rattle.alg_reify.proofs.Held.{held_left, held_right}
 use Rattle.alg_reify.proofs.Images.{Each-image}
+use Rattle.alg_reify.proofs.Made.{all_back}
 use Rattle.alg_reify.proofs.Numbering.{IsNumbered, contained_numbered}
+use Rattle.alg_meaning.proofs.Canonical.{IsPolynomial-poly_of}
+use Rattle.alg_reify.proofs.Undone.{monos_back}
 
 -- equal polynomials differ nowhere
 differ_nowhere : (p q : Polynomial) (m : Monomial) (a b : ℤ) → p ≡ q → DifferFirst p q m a b → ⊥
@@ -66,8 +75,9 @@ abbrev right_of : File → Equation → Polynomial
 right_of file e = numbered (own_table file e) (poly_of e.right)
 
 -- where the verdict is No, the polynomials differ
-pub no_differs : NoDiffers
-no_differs file e m a b h same =
+different : (file : File) (e : Equation) (m : Monomial) (a b : ℤ) → IsRingVerdict file e (RingVerdict.No m a b) →
+    poly_of e.left ≢ poly_of e.right
+different file e m a b h same =
     differ_nowhere (left_of file e) (right_of file e) m a b (ap (numbered (own_table file e)) same) h.1
 
 -- two verdicts on an equation are one
@@ -91,11 +101,11 @@ one_ring_verdict file e RingVerdict.Proved RingVerdict.Atoms h g = absurd (omega
 one_ring_verdict file e RingVerdict.Proved RingVerdict.Range h g = absurd (cc)
 one_ring_verdict file e RingVerdict.Proved RingVerdict.Degree h g = absurd (cc)
 one_ring_verdict file e RingVerdict.Proved RingVerdict.Proved h g = refl
-one_ring_verdict file e RingVerdict.Proved (RingVerdict.No n c d) h g = absurd (no_differs file e n c d g h.1)
+one_ring_verdict file e RingVerdict.Proved (RingVerdict.No n c d) h g = absurd (different file e n c d g h.1)
 one_ring_verdict file e (RingVerdict.No m a b) RingVerdict.Atoms h g = absurd (omega arith)
 one_ring_verdict file e (RingVerdict.No m a b) RingVerdict.Range h g = absurd (cc)
 one_ring_verdict file e (RingVerdict.No m a b) RingVerdict.Degree h g = absurd (cc)
-one_ring_verdict file e (RingVerdict.No m a b) RingVerdict.Proved h g = absurd (no_differs file e m a b h g.1)
+one_ring_verdict file e (RingVerdict.No m a b) RingVerdict.Proved h g = absurd (different file e m a b h g.1)
 one_ring_verdict file e (RingVerdict.No m a b) (RingVerdict.No n c d) h g =
     one_no (left_of file e) (right_of file e) m n a b c d h.1 g.1
 
@@ -122,16 +132,13 @@ numbers_of file e t held =
     (atoms_in (IsNumbered atoms) [] t (recursion_from_All (IsNumbered atoms) (leaves [] t)
     (All-weaker (Contains atoms) (IsNumbered atoms) (contained_numbered atoms) (leaves [] t) held)))
 
--- the monomial of No is one of either side
-pub no_is_over_the_table : NoIsOverTheTable
-no_is_over_the_table file e m a b h =
-    let Over : Monomial → Type 0 = λ n. Each (λ k. k < length (own_table file e)) n in
-    let d = h.1 in
-    elim (is_zero a) as (λ z. is_zero a ≡ z → Over m) [
-      | true ↦ λ is. has_monomial Over (right_of file e) m (numbers_of file e e.right (held_right file e []))
-          (λ zero. d.differ (is_zero_only a is ∙ sym zero ∙ d.right))
-      | false ↦ λ is. has_monomial Over (left_of file e) m (numbers_of file e e.left (held_left file e []))
-          (λ zero. some a is (sym d.left ∙ zero))
+-- what holds of the monomials of both sides holds of the monomial of No, which is one of either
+of_either : (P : Monomial → Type 0) (p q : Polynomial) (m : Monomial) (a b : ℤ) → Each P p → Each P q →
+    DifferFirst p q m a b → P m
+of_either P p q m a b left right d =
+    elim (is_zero a) as (λ z. is_zero a ≡ z → P m) [
+      | true ↦ λ is. has_monomial P q m right (λ zero. d.differ (is_zero_only a is ∙ sym zero ∙ d.right))
+      | false ↦ λ is. has_monomial P p m left (λ zero. some a is (sym d.left ∙ zero))
     ] refl
   where
     some : (c : ℤ) → is_zero c ≡ false → c ≡ pos 0 → ⊥
@@ -139,3 +146,51 @@ no_is_over_the_table file e m a b h =
       where
         differ : (t : Bool) → t ≡ false → t ≡ true → ⊥
         differ t f g = cc
+
+pub no_is_over_the_table : NoIsOverTheTable
+no_is_over_the_table file e m a b h =
+    let Over : Monomial → Type 0 = λ n. Each (λ k. k < length (own_table file e)) n in
+    of_either Over (left_of file e) (right_of file e) m a b (numbers_of file e e.left (held_left file e []))
+    (numbers_of file e e.right (held_right file e [])) h.1
+
+module _ (atoms : List Atom) where
+  -- the monomials of a side come back from their numbers
+  abbrev Back : over.Polynomial → Type 0
+  Back p = Each (ComesBack atom_total atom_anti nat_cmp_total nat_cmp-IsAntisymmetric (number_of atoms) (atom_at atoms)) p
+
+  side_back : (t : Term) → All (Contains atoms) (leaves [] t) → Back (poly_of t)
+  side_back t held =
+      monos_back atom_total atom_anti nat_cmp_total nat_cmp-IsAntisymmetric (number_of atoms) (atom_at atoms) (poly_of t)
+      (IsPolynomial-poly_of t).monomials (all_back atoms [] t held)
+
+  -- a monomial over numbers is that of its atoms
+  abbrev Round : Monomial → Type 0
+  Round n = numbered_monomial atoms (over_atoms atoms n) ≡ n
+
+  side_round : (t : Term) → Back (poly_of t) → Each Round (numbered atoms (poly_of t))
+  side_round t back =
+      images_round atom_total atom_anti nat_cmp_total nat_cmp-IsAntisymmetric (number_of atoms) (atom_at atoms) (poly_of t)
+      back
+
+  -- so the coefficient at a monomial over numbers is that at its atoms
+  at_its_atoms : (t : Term) (m : Monomial) (c : ℤ) → Back (poly_of t) → Round m →
+      coefficient_of m (numbered atoms (poly_of t)) ≡ c →
+      coefficient falling integers (over_atoms atoms m) (poly_of t) ≡ c
+  at_its_atoms t m c back round is =
+      coefficient_back atom_total atom_anti nat_cmp_total nat_cmp-IsAntisymmetric (number_of atoms) (atom_at atoms) m
+      (poly_of t) round back ∙ is
+
+-- where the verdict is No, the sides have its coefficients at its atoms
+pub no_differs : NoDiffers
+no_differs file e m a b h =
+    let atoms = own_table file e in
+    let left = side_back atoms e.left (held_left file e []) in
+    let right = side_back atoms e.right (held_right file e []) in
+    let round = of_either (Round atoms) (left_of file e) (right_of file e) m a b (side_round atoms e.left left)
+    (side_round atoms e.right right) h.1 in
+    record {
+      polynomials = different file e m a b h;
+      left = at_its_atoms atoms e.left m a left round h.1.left;
+      right = at_its_atoms atoms e.right m b right round h.1.right;
+      differ = h.1.differ;
+    }

@@ -1,13 +1,21 @@
-//! What holds of the verdicts by ring. The functions do nothing: their contracts are the laws.
+//! What holds of numbered polynomials and of the verdicts by ring. The functions do nothing: their
+//! contracts are the laws.
 
-ghost use Rattle.alg_reify.specs.Laws.{OneRingVerdict, NoDiffers, NoIsOverTheTable, NoIsWithinRange};
+ghost use Rattle.alg_reify.specs.Laws.{NumberedCoefficients, OneRingVerdict, NoDiffers, NoIsOverTheTable, NoIsWithinRange};
+
+/// A polynomial over the atoms of a table has, after its atoms are numbered, its own coefficient at
+/// the image of each monomial over these atoms.
+pub fn numbered_coefficients()
+    ensures { NumberedCoefficients }
+{}
 
 /// An equation has at most one verdict by ring.
 pub fn one_ring_verdict()
     ensures { OneRingVerdict }
 {}
 
-/// Where the verdict is No, the two sides are different polynomials.
+/// Where the verdict is No, the two sides are different polynomials: at the monomial of the verdict,
+/// read as atoms, they have its two coefficients, which differ.
 pub fn no_differs()
     ensures { NoDiffers }
 {}
