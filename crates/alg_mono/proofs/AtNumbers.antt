@@ -37,7 +37,8 @@ polynomials_are_a_ring = record {
 
 pub no_divisors_of_zero : NoZeroDivisors
 no_divisors_of_zero p q c d =
-    no_zero_divisors before_total before_anti (mono_times nat_cmp) (mono_times_comm o anti) (λ m. IsCanonical nat_cmp exponents m)
+    no_zero_divisors before_total before_anti (mono_times nat_cmp) (mono_times_comm o anti)
+    (λ m. IsCanonical nat_cmp exponents m)
     (falling-mono_times o anti)
     p q c.canonical d.canonical c.monomials d.monomials
 

@@ -58,7 +58,8 @@ module _ {K L : Type 0} {ck : K → K → Ordering} {cl : L → L → Ordering}
 
   -- and the coefficients are the same
   pub coefficient_image : (m : List (K × ℕ)) (p : PolyOver K) → ComesBack m → Each ComesBack p →
-      coefficient (falling cl) integers (mono_image ck cl f m) (poly_image ck cl f p) ≡ coefficient (falling ck) integers m p
+      coefficient (falling cl) integers (mono_image ck cl f m) (poly_image ck cl f p) ≡ coefficient
+      (falling ck) integers m p
   coefficient_image m p back each =
       amount-collect integer_laws.amounts (falling_total ol al) (falling_anti ol al) (mono_image ck cl f m)
       (renamed (mono_image ck cl f) p) ∙ amount_image m p back each

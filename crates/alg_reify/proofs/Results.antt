@@ -23,7 +23,8 @@ use Rattle.alg_reify.proofs.Made.{made, like_made, made-Var, made-Int, made-Neg,
 use Rattle.alg_reify.proofs.Parts.{HasPart, HasParts, over_part, over_left, over_right, part-Neg, part-Pow, part-Hom, parts-Add, parts-Sub, parts-Mul}
 
 -- what a call says one by one
-pub joined : {Q : Type 0} (map : Q → PolyOver ℕ) (r : Result Q Overrun) (p x : PolyOver ℕ) (o u : Outcome) → IfOk r (λ q. map q ≡ p) → IfOk r (λ q. o ≡ Outcome.Fine) →
+pub joined : {Q : Type 0} (map : Q → PolyOver ℕ) (r : Result Q Overrun) (p x : PolyOver ℕ) (o u : Outcome) →
+    IfOk r (λ q. map q ≡ p) → IfOk r (λ q. o ≡ Outcome.Fine) →
     IfErr r (λ e. Tells e o) → p ≡ x → o ≡ u → Makes map x u r
 joined map (Ok q) p x o u is fine refused same other = (is ∙ same, sym other ∙ fine)
 joined map (Err e) p x o u is fine refused same other = subst (Tells e) other refused
@@ -35,19 +36,25 @@ first_told Degree o later h = ap (λ x. first_breach x later) h
 first_told NoMemory o later h = tt
 
 -- an error that was handed on tells what it told
-handed_on : {Q : Type 0} (map : Q → PolyOver ℕ) (r : Result Q Overrun) (p : PolyOver ℕ) (o : Outcome) (e : Overrun) → IsErrAnd r (λ d. d ≡ e) → Tells e o → Makes map p o r
+handed_on : {Q : Type 0} (map : Q → PolyOver ℕ) (r : Result Q Overrun) (p : PolyOver ℕ) (o : Outcome) (e : Overrun) →
+    IsErrAnd r (λ d. d ≡ e) → Tells e o → Makes map p o r
 handed_on map (Ok q) p o e came h = absurd came
 handed_on map (Err d) p o e came h = let P : Overrun → Type 0 = λ x. Tells x o in subst P (sym came) h
 
 -- the part failed
-pub part_failed : {Q : Type 0} (map : Q → PolyOver ℕ) (r : Result Q Overrun) (p : PolyOver ℕ) (t part : Term) (path inner : List ℕ) (own : Outcome) (e : Overrun) →
-    HasPart t part path inner own → IsErrAnd r (λ d. d ≡ e) → Tells e (term_outcome part) → Makes map p (term_outcome t) r
+pub part_failed : {Q : Type 0} (map : Q → PolyOver ℕ)
+    (r : Result Q Overrun) (p : PolyOver ℕ) (t part : Term) (path inner : List ℕ) (own : Outcome)
+    (e : Overrun) →
+    HasPart t part path inner own → IsErrAnd r (λ d. d ≡ e) → Tells e (term_outcome part) →
+    Makes map p (term_outcome t) r
 part_failed map r p t part path inner own e h came told =
     handed_on map r p (term_outcome t) e came
     (subst (Tells e) (sym h.outcome) (first_told e (term_outcome part) own told))
 
 -- the left part failed
-pub left_failed : {Q : Type 0} (map : Q → PolyOver ℕ) (r : Result Q Overrun) (p : PolyOver ℕ) (t a b : Term) (own : Outcome) (e : Overrun) → HasParts t a b own →
+pub left_failed : {Q : Type 0} (map : Q → PolyOver ℕ)
+    (r : Result Q Overrun) (p : PolyOver ℕ) (t a b : Term) (own : Outcome) (e : Overrun) →
+    HasParts t a b own →
     IsErrAnd r (λ d. d ≡ e) → Tells e (term_outcome a) → Makes map p (term_outcome t) r
 left_failed map r p t a b own e h came told =
     handed_on map r p (term_outcome t) e came
@@ -60,7 +67,9 @@ after_left t a b own h fine =
     sym (h.outcome ∙ ap (λ o. first_breach o (first_breach (term_outcome b) own)) fine)
 
 -- the right part failed
-pub right_failed : {Q : Type 0} (map : Q → PolyOver ℕ) (r : Result Q Overrun) (p : PolyOver ℕ) (t a b : Term) (own : Outcome) (e : Overrun) → HasParts t a b own →
+pub right_failed : {Q : Type 0} (map : Q → PolyOver ℕ)
+    (r : Result Q Overrun) (p : PolyOver ℕ) (t a b : Term) (own : Outcome) (e : Overrun) →
+    HasParts t a b own →
     IsErrAnd r (λ d. d ≡ e) → term_outcome a ≡ Outcome.Fine → Tells e (term_outcome b) → Makes map p (term_outcome t) r
 right_failed map r p t a b own e h came fine told =
     handed_on map r p (term_outcome t) e came
@@ -148,7 +157,8 @@ module _ (atoms : List Atom) (path after : List ℕ) (t x y a b : Term) (p q : P
 
 module _ (atoms : List Atom) (path : List ℕ) (t x part : Term) (p : PolyOver ℕ) (is : part ≡ x) where
   -- the power
-  pub power_made : {Q : Type 0} (map : Q → PolyOver ℕ) (n : ℕ) (r : Result Q Overrun) → IsOver atoms path t → IsMade atoms path part p → t ≡ Pow x n →
+  pub power_made : {Q : Type 0} (map : Q → PolyOver ℕ) (n : ℕ) (r : Result Q Overrun) → IsOver atoms path t →
+      IsMade atoms path part p → t ≡ Pow x n →
       IfOk r (λ s. map s ≡ power_of p n) → IfOk r (λ s. power_outcome p n ≡ Outcome.Fine) →
       IfErr r (λ e. Tells e (power_outcome p n)) → Makes map (made atoms path t) (term_outcome t) r
   power_made map n r over h e made_is fine refused =

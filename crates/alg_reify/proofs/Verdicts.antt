@@ -156,11 +156,13 @@ no_is_over_the_table file e m a b h =
 module _ (atoms : List Atom) where
   -- the monomials of a side come back from their numbers
   abbrev Back : over.Polynomial → Type 0
-  Back p = Each (ComesBack atom_total atom_anti nat_cmp_total nat_cmp-IsAntisymmetric (number_of atoms) (atom_at atoms)) p
+  Back p = Each (ComesBack atom_total atom_anti nat_cmp_total nat_cmp-IsAntisymmetric (number_of atoms)
+      (atom_at atoms)) p
 
   side_back : (t : Term) → All (Contains atoms) (leaves [] t) → Back (poly_of t)
   side_back t held =
-      monos_back atom_total atom_anti nat_cmp_total nat_cmp-IsAntisymmetric (number_of atoms) (atom_at atoms) (poly_of t)
+      monos_back atom_total atom_anti nat_cmp_total nat_cmp-IsAntisymmetric (number_of atoms) (atom_at atoms)
+      (poly_of t)
       (IsPolynomial-poly_of t).monomials (all_back atoms [] t held)
 
   -- a monomial over numbers is that of its atoms
@@ -169,7 +171,8 @@ module _ (atoms : List Atom) where
 
   side_round : (t : Term) → Back (poly_of t) → Each Round (numbered atoms (poly_of t))
   side_round t back =
-      images_round atom_total atom_anti nat_cmp_total nat_cmp-IsAntisymmetric (number_of atoms) (atom_at atoms) (poly_of t)
+      images_round atom_total atom_anti nat_cmp_total nat_cmp-IsAntisymmetric (number_of atoms) (atom_at atoms)
+      (poly_of t)
       back
 
   -- so the coefficient at a monomial over numbers is that at its atoms

@@ -58,7 +58,11 @@ pub make-requires-in-Pow : goal.make-requires-in-Pow
 make-requires-in-Pow g t c =
     let path = c.args.path.now.items in λ κs h. (
       search (rules, the_lemmas),
-      (h, over_part c.args.table.now path path _ _ _ (part-Pow path _ _ _ _ c.in-Pow.is c.get-in-Pow.ensures) c.requires),
+      (
+        h,
+        over_part c.args.table.now path path _ _ _
+            (part-Pow path _ _ _ _ c.in-Pow.is c.get-in-Pow.ensures) c.requires,
+      ),
     )
 
 pub returns-in_err-part-in-Pow-clause-makes : goal.returns-in_err-part-in-Pow-clause-makes
@@ -126,7 +130,8 @@ make-requires-in-Add-2 g t c = λ κs h. (
 
 pub returns-in_err-right-in-Add-clause-makes : goal.returns-in_err-right-in-Add-clause-makes
 returns-in_err-right-in-Add-clause-makes g t c =
-    right_failed g.P.PolynomialForm.map _ _ _ _ _ _ _ (parts-Add _ _ _ _ _ c.in-Add.is c.get-in-Add.ensures c.get-in-Add-2.ensures)
+    right_failed g.P.PolynomialForm.map _ _ _ _ _ _ _
+    (parts-Add _ _ _ _ _ c.in-Add.is c.get-in-Add.ensures c.get-in-Add-2.ensures)
     c.from_residual-in_err-right-in-Add.ensures.1 c.in_ok-left-in-Add.ensures.makes.1
     c.in_err-right-in-Add.ensures.makes
 
@@ -163,7 +168,8 @@ make-requires-in-Sub-2 g t c = λ κs h. (
 
 pub returns-in_err-right-in-Sub-clause-makes : goal.returns-in_err-right-in-Sub-clause-makes
 returns-in_err-right-in-Sub-clause-makes g t c =
-    right_failed g.P.PolynomialForm.map _ _ _ _ _ _ _ (parts-Sub _ _ _ _ _ c.in-Sub.is c.get-in-Sub.ensures c.get-in-Sub-2.ensures)
+    right_failed g.P.PolynomialForm.map _ _ _ _ _ _ _
+    (parts-Sub _ _ _ _ _ c.in-Sub.is c.get-in-Sub.ensures c.get-in-Sub-2.ensures)
     c.from_residual-in_err-right-in-Sub.ensures.1 c.in_ok-left-in-Sub.ensures.makes.1
     c.in_err-right-in-Sub.ensures.makes
 
@@ -201,7 +207,8 @@ make-requires-in-Mul-2 g t c = λ κs h. (
 
 pub returns-in_err-right-in-Mul-clause-makes : goal.returns-in_err-right-in-Mul-clause-makes
 returns-in_err-right-in-Mul-clause-makes g t c =
-    right_failed g.P.PolynomialForm.map _ _ _ _ _ _ _ (parts-Mul _ _ _ _ _ c.in-Mul.is c.get-in-Mul.ensures c.get-in-Mul-2.ensures)
+    right_failed g.P.PolynomialForm.map _ _ _ _ _ _ _
+    (parts-Mul _ _ _ _ _ c.in-Mul.is c.get-in-Mul.ensures c.get-in-Mul-2.ensures)
     c.from_residual-in_err-right-in-Mul.ensures.1 c.in_ok-left-in-Mul.ensures.makes.1
     c.in_err-right-in-Mul.ensures.makes
 
