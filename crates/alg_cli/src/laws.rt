@@ -1,6 +1,6 @@
 //! Laws of what is written and read. Each is a function whose contract is the law.
 
-ghost use Rattle.alg_cli.specs.ReadingBack.{IsWrittenByGrammar, ReadsBack};
+ghost use Rattle.alg_reading_back.specs.ReadingBack.{IsWrittenByGrammar, ReadsBack};
 
 /// The canonical text of a valid file without answers is that file by the whole grammar, where no
 /// statement of the text has more than 200 parentheses open at once. Where the file has no
@@ -9,5 +9,5 @@ pub fn reads_back()
     ensures by_grammar { IsWrittenByGrammar }
     ensures today { ReadsBack }
 {
-    alg_tokens::laws::cut_from_anywhere();
+    alg_reading_back::laws::reads_back();
 }

@@ -1,9 +1,0 @@
-use Rattle.alg_cli.proofs.FilesBack.{written_by_grammar}
-use Rattle.alg_cli.proofs.TodayBack.{reads_back}
-use Rattle.alg_cli.proofs.laws.reads_back.Goals as goal
-
-pub returns-clause-by_grammar : goal.returns-clause-by_grammar
-returns-clause-by_grammar c = written_by_grammar c.cut_from_anywhere.ensures
-
-pub returns-clause-today : goal.returns-clause-today
-returns-clause-today c = reads_back c.cut_from_anywhere.ensures

@@ -1,0 +1,204 @@
+-- The canonical text of a file without answers is the file by the whole grammar.
+use Rattle.std.proofs.Common.{◌≡◌, ◌≤◌, ℕ, zero, suc, ◌+◌, ◌-◌, List, [], ◌∷◌, ◌++◌, length, take, None, refl, sym, ap, ◌∙◌, subst, arith, append_assoc, append-nil}
+use Rattle.std.specs.List.{AllByRecursion}
+use Rattle.std.specs.Option.{option_or, option_map}
+use Rattle.std.proofs.lemmas.List.Concat.{flat_map-append}
+use Rattle.std.proofs.lemmas.List.Elements.{recursion_from_All}
+use Rattle.alg_terms.specs.declared.file.File.{File}
+use Rattle.alg_terms.specs.declared.file.Statement.{Statement}
+use Rattle.alg_terms.specs.declared.file.Statement.TheVariants as statement
+use Rattle.alg_terms.specs.Order.{numbers_from}
+use Rattle.alg_terms.specs.Valid.{IsValid}
+use Rattle.alg_tokens.specs.Laws.{width, tokens_of, CutFromAnywhere}
+use Rattle.alg_tokens.specs.Pieces.{Piece}
+use Rattle.alg_tokens.proofs.Neighbours.{spell, spell_append, width_append}
+use Rattle.alg_reader.specs.declared.reading.Raw.{Raw}
+use Rattle.alg_reader.proofs.Found.{all_split}
+use Rattle.alg_typing.specs.Faults.{fault, first_of}
+use Rattle.alg_typing.specs.NameFaults.{name_faults}
+use Rattle.alg_typing.specs.Reading.{first_fault, no_statements}
+use Rattle.alg_typing.specs.SortFaults.{sort_faults}
+use Rattle.alg_printer.specs.Text.{text_of, statement_text, IsStatementOf}
+use Rattle.alg_reading_back.specs.ReadingBack.{most_open, OpensFew, HasFewOpen, StandsByGrammar, HasStatements, IsByGrammar, IsWrittenByGrammar}
+use Rattle.alg_reading_back.proofs.ClosedFronts.{IsClosedBy, nothing_closed, front_closed, closed_next}
+use Rattle.alg_reading_back.proofs.DeclarationsBack.{sort_taken, hom_taken}
+use Rattle.alg_reading_back.proofs.EvenPieces.{even_standing, few_open}
+use Rattle.alg_reading_back.proofs.FileTokens.{statement_of, statement_tokens, text_ends, statement_piece_bytes}
+use Rattle.alg_reading_back.proofs.FrontNames.{front_distinct}
+use Rattle.alg_reading_back.proofs.Fronts.{front, next}
+use Rattle.alg_reading_back.proofs.GoalsBack.{goal_taken}
+use Rattle.alg_reading_back.proofs.HypsBack.{hyp_taken}
+use Rattle.alg_reading_back.proofs.LaidStatements.{laid_statement, file_pieces}
+use Rattle.alg_reading_back.proofs.LaidTerms.{line_feed}
+use Rattle.alg_reading_back.proofs.NextLists.{same_lists}
+use Rattle.alg_reading_back.proofs.Placed.{Placed, placed_all}
+use Rattle.alg_reading_back.proofs.SpelledStatements.{line_pieces, spelled_statement}
+use Rattle.alg_reading_back.proofs.StandingStatements.{stand_statement}
+use Rattle.alg_reading_back.proofs.StatementsRead.{statement_stands}
+use Rattle.alg_reading_back.proofs.Taken.{IsTaken}
+use Rattle.alg_reading_back.proofs.Utf8Text.{text_utf8}
+use Rattle.alg_reading_back.proofs.VarLists.{numbers_long}
+use Rattle.alg_reading_back.proofs.VarsBack.{vars_taken}
+
+-- ---- the whole file as the front of all statements
+
+-- as many items as there are
+take_whole : {X : Type 0} (xs : List X) (n : ℕ) → n ≡ length xs → take n xs ≡ xs
+take_whole [] zero h = refl
+take_whole [] (suc n) h = absurd (omega arith)
+take_whole (x ∷ xs) zero h = absurd (omega arith)
+take_whole (x ∷ xs) (suc n) h = ap (λ ys. x ∷ ys) (take_whole xs n (omega arith))
+
+take_no : {X : Type 0} (xs : List X) → take 0 xs ≡ []
+take_no [] = refl
+take_no (x ∷ xs) = refl
+
+-- all numbers of a list
+all_of : {X : Type 0} (xs : List X) (numbers : List ℕ) → numbers ≡ numbers_from 0 (length xs) →
+    take (length numbers) xs ≡ xs
+all_of xs numbers same = take_whole xs (length numbers) (ap length same ∙ numbers_long 0 (length xs))
+
+pub whole_front : (file : File) → IsValid file → front file file.order ≡ file
+whole_front file valid =
+    let all = valid.ordered.once_rising in
+    same_lists (front file file.order) file (all_of file.sorts _ (ap (λ m. m.sorts) all))
+    (all_of file.homs _ (ap (λ m. m.homs) all)) (all_of file.vars _ (ap (λ m. m.vars) all))
+    (all_of file.hyps _ (ap (λ m. m.hyps) all)) (all_of file.goals _ (ap (λ m. m.goals) all)) refl
+
+pub empty_front : (file : File) → front file [] ≡ no_statements
+empty_front file =
+    same_lists (front file []) no_statements (take_no file.sorts) (take_no file.homs) (take_no file.vars)
+    (take_no file.hyps) (take_no file.goals) refl
+
+-- ---- each statement
+
+-- a statement that is taken and has nothing too deep has no first fault
+pub faultless : (g next : File) (text : List ℕ) (raw : Raw) → raw.too_deep ≡ None → IsTaken g text raw.kind next →
+    first_fault g text raw ≡ None
+faultless g next text raw shallow taken =
+    let sorts = first_of (sort_faults g text raw.kind) in
+    let names = first_of (name_faults g text raw.kind) in
+    ap (λ deep. option_or (option_map (fault 11) deep) (option_or names sorts)) shallow
+    ∙ ap (λ faults. option_or (first_of faults) sorts) taken.names ∙ ap first_of taken.sorts
+
+module _ (law : CutFromAnywhere) (file : File) (valid : IsValid file) (few : OpensFew file) where
+  abbrev pub text : List ℕ
+  text = text_of file []
+
+  abbrev pub pieces_of : Statement → List Piece
+  pieces_of s = (laid_statement file s).pieces
+
+  -- where the next statement stands behind some others, and where reading goes on to it
+  abbrev pub begin : List Statement → ℕ
+  begin before = width (file_pieces file before)
+
+  abbrev pub place : List Statement → ℕ
+  place before = begin before - 1
+
+  -- what is read of it
+  abbrev pub raw_of : List Statement → Statement → Raw
+  raw_of before s = record {
+    kind = (laid_statement file s).raw (begin before);
+    start = begin before;
+    stop = begin before + width (pieces_of s);
+    too_deep = None;
+  }
+
+  pub few_there : (before after : List Statement) (s : Statement) → file.order ≡ before ++ (s ∷ after) →
+      most_open 0 (statement_text file [] s) ≤ 200
+  few_there before after s split =
+      let P : Statement → Type 0 = λ s. most_open 0 (statement_text file [] s) ≤ 200 in
+      let all = subst (AllByRecursion P) split (recursion_from_All P file.order few) in
+      (all_split P before (s ∷ after) all).1.0
+
+  -- the parentheses of its tokens are those of its text
+  tokens_few : (s : Statement) (at : ℕ) → IsStatementOf file s → most_open 0 (statement_text file [] s) ≤ 200 →
+      HasFewOpen 0 (tokens_of at (pieces_of s))
+  tokens_few s at is low =
+      let rest = spell (line_feed ∷ []) in
+      let even = even_standing (pieces_of s) (10 ∷ [])
+      (stand_statement file s valid is (10 ∷ []) (10, [], refl, refl)) in
+      let whole : most_open 0 (spell (pieces_of s) ++ rest) ≡ most_open 0 (statement_text file [] s) =
+      ap (most_open 0) (sym (spell_append (pieces_of s) (line_feed ∷ [])) ∙ spelled_statement file s is) in
+      few_open 0 at (pieces_of s) rest even (omega (arith, whole, low))
+
+  stands_there : (before after : List Statement) (s : Statement) → file.order ≡ before ++ (s ∷ after) →
+      StandsByGrammar text (place before) (raw_of before s)
+  stands_there before after s split =
+      let is = statement_of file valid before after s split in
+      statement_stands file valid s is text (place before) (begin before) (begin before + width (pieces_of s))
+      (statement_tokens law file valid before after s split)
+      (tokens_few s (begin before) is (few_there before after s split))
+
+  placed_there : (before after : List Statement) (s : Statement) → file.order ≡ before ++ (s ∷ after) →
+      Placed text (begin before) (pieces_of s)
+  placed_there before after s split =
+      placed_all text (begin before) (pieces_of s) (statement_piece_bytes file valid before after s split)
+
+  -- the front before it takes it
+  pub taken_there : (before after : List Statement) (s : Statement) → file.order ≡ before ++ (s ∷ after) →
+      IsStatementOf file s → IsClosedBy file before →
+      IsTaken (front file before) text ((laid_statement file s).raw (begin before)) (front file (before ++ s ∷ []))
+  taken_there before after (statement.Sort k) split is closed =
+      sort_taken file valid before after k split text (begin before)
+      (placed_there before after (statement.Sort k) split)
+  taken_there before after (statement.Hom f) split is closed =
+      hom_taken file valid before after f split (front_distinct file valid before) text (begin before)
+      (placed_there before after (statement.Hom f) split)
+  taken_there before after (statement.Vars first count) split is closed =
+      vars_taken file valid before after first count split (front_distinct file valid before) text (begin before)
+      (placed_there before after (statement.Vars first count) split)
+  taken_there before after (statement.Hyp h) split is closed =
+      hyp_taken file valid before after h split is text (begin before)
+      (placed_there before after (statement.Hyp h) split)
+  taken_there before after (statement.Goal i) split is closed =
+      let fits = (next file valid.ordered before after (statement.Goal i) split).sorts.1 in
+      goal_taken file valid before after i split is (front_closed file before (omega (arith, fits)) closed) text
+      (begin before) (placed_there before after (statement.Goal i) split)
+
+  -- it stops where reading goes on behind it
+  pub next_place : (before : List Statement) (s : Statement) →
+      place (before ++ s ∷ []) ≡ begin before + width (pieces_of s)
+  next_place before s =
+      let line = line_pieces (pieces_of s) in
+      let pieces : file_pieces file (before ++ s ∷ []) ≡ file_pieces file before ++ line =
+      flat_map-append (λ s. line_pieces (pieces_of s)) before (s ∷ [])
+      ∙ ap (λ ps. file_pieces file before ++ ps) (append-nil line) in
+      let wide : begin (before ++ s ∷ []) ≡ begin before + width line = ap width pieces
+      ∙ width_append (file_pieces file before) line in
+      let feed = width_append (pieces_of s) (line_feed ∷ []) in
+      omega (arith, wide, feed)
+
+  -- all of them, and then the end
+  Has : List Statement → Type 0
+  Has before = (raws : List Raw) × HasStatements text (place before) (front file before) raws file
+
+  has_on : (after before : List Statement) → file.order ≡ before ++ after → IsClosedBy file before → Has before
+  unfolding Has
+  has_on [] before split closed =
+      subst Has (split ∙ append-nil before) ([], (text_ends law file valid, sym (whole_front file valid)))
+  has_on (s ∷ after) before split closed =
+      let is = statement_of file valid before after s split in
+      let taken = taken_there before after s split is closed in
+      let raw = raw_of before s in
+      let further = before ++ s ∷ [] in
+      let (raws, more) = has_on after further (split ∙ sym (append_assoc before (s ∷ []) after))
+      (closed_next file valid before after s split is closed) in
+      let behind = subst (λ at. HasStatements text at (front file further) raws file) (next_place before s) more in
+      let from = subst (λ g. HasStatements text raw.stop g raws file) (sym taken.extends) behind in (
+        raw ∷ raws,
+        (
+          stands_there before after s split,
+          faultless (front file before) (front file further) text raw refl taken,
+          from,
+        ),
+      )
+
+  by_grammar : IsByGrammar text file
+  unfolding Has
+  by_grammar =
+      let (raws, has) = has_on file.order [] refl (nothing_closed file) in
+      (text_utf8 file valid, (raws, subst (λ g. HasStatements text 0 g raws file) (empty_front file) has))
+
+pub written_by_grammar : CutFromAnywhere → IsWrittenByGrammar
+written_by_grammar law file valid few = by_grammar law file valid few
