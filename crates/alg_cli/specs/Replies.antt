@@ -1,13 +1,13 @@
 -- What an input is replied: the text, the status, and what the answers in it say.
-use Rattle.std.specs.Prelude.{◌≡◌, ◌≢◌, ◌<◌, ◌≤◌, ◌⊎◌, ℕ, ℤ, Bool, true, false, if◌then◌else◌, List, [], ◌++◌, length, map, codes, decimal, slice_get, Some, Ok, Err}
+use Rattle.std.specs.Prelude.{◌≡◌, ◌<◌, ◌≤◌, ◌⊎◌, ℕ, ℤ, Bool, true, false, if◌then◌else◌, List, [], ◌++◌, length, map, codes, decimal, slice_get, Some, Ok, Err}
 use Rattle.std.specs.List.{list_all}
 use Rattle.alg_lines.specs.declared.answer.Answer.{Answer}
 use Rattle.alg_lines.specs.declared.answer.Answer.TheVariants.{Proved, Certified, No}
 use Rattle.alg_lines.specs.declared.cert.Cert.{Cert}
-use Rattle.alg_meaning.specs.PolynomialOf.{poly_of}
 use Rattle.alg_mono.specs.Mono.{Monomial}
 use Rattle.alg_printer.specs.Text.{text_of}
 use Rattle.alg_prover.specs.Answers.{AreAnswers}
+use Rattle.alg_reify.specs.RingVerdict.{SidesDiffer}
 use Rattle.alg_terms.specs.declared.file.File.{File}
 use Rattle.alg_terms.specs.declared.goals.Method.TheVariants.{ByRing}
 use Rattle.alg_terms.specs.declared.term.Term.{Term}
@@ -44,12 +44,13 @@ pub record ProvedAreRight {E : Type 0} (u : Ghosts E) (file : File) (answers : L
   pub certified : (i : ℕ) (constants : List ℤ) (cert : Cert) → slice_get answers i ≡ Some (Certified constants cert) →
       IsRight u file i [] constants
 
--- the sides of each goal by ring that is answered no are different polynomials
+-- the sides of each goal by ring that is answered no are different polynomials: at the printed monomial, read as atoms,
+-- they have the printed coefficients, which differ
 abbrev pub NoesDiffer : File → List Answer → Type 0
 NoesDiffer file answers =
     (i : ℕ) (at : Monomial) (left right : ℤ) → slice_get answers i ≡ Some (No at left right) →
     (goal_at file i).method ≡ ByRing →
-    poly_of (goal_at file i).equation.left ≢ poly_of (goal_at file i).equation.right
+    SidesDiffer file (goal_at file i).equation at left right
 
 -- the text is the file's with its answers, and the status is that of the answers
 pub record IsFileReply (file : File) (text : List ℕ) (status : Status) : Type 0 where

@@ -1,5 +1,5 @@
 -- The file that the answers are tried on is valid, and its goals are by ring.
-use Rattle.std.proofs.Common.{◌≡◌, ◌≢◌, ◌<◌, ◌+◌, ℕ, ℤ, List, [], ◌∷◌, refl, sym, subst, arith, rules, lit<, lit≤, ap, ◌∙◌}
+use Rattle.std.proofs.Common.{◌≡◌, ◌≢◌, ◌<◌, ◌+◌, ℕ, ℤ, List, [], ◌∷◌, refl, sym, subst, arith, rules, lit<, lit≤, ap}
 use Rattle.std.specs.List.{AllByRecursion}
 use Rattle.std.specs.Prelude.{All, AllPairs, Contains, pos, ◌≤ℤ◌}
 use Rattle.std.proofs.lemmas.List.Elements.{All-from_recursion, All-nil, All-take}

@@ -1,10 +1,9 @@
 -- What the answers to goals say.
-use Rattle.std.proofs.Common.{◌≡◌, ◌≢◌, ℕ, ℤ, List, [], ◌∷◌, refl, sym, ap, ◌∙◌, subst}
+use Rattle.std.proofs.Common.{◌≡◌, ℕ, ℤ, List, [], ◌∷◌, refl, sym, ap, ◌∙◌, subst}
 use Rattle.std.specs.List.{AllZip}
 use Rattle.alg_lines.specs.declared.answer.Answer.{Answer}
 use Rattle.alg_lines.specs.declared.answer.Answer.TheVariants.{Proved, Certified, No}
 use Rattle.alg_lines.specs.declared.cert.Cert.{Cert}
-use Rattle.alg_meaning.specs.PolynomialOf.{poly_of}
 use Rattle.alg_mono.specs.Mono.{Monomial}
 use Rattle.alg_terms.specs.declared.file.File.{File}
 use Rattle.alg_terms.specs.declared.goals.Equation.{Equation}
@@ -15,7 +14,7 @@ use Rattle.alg_terms.specs.declared.term.Term.{Term}
 use Rattle.alg_terms.specs.Members.{goal_at}
 use Rattle.alg_universe.specs.declared.universe.Universe.{Ghosts}
 use Rattle.alg_universe.specs.Right.{IsRight}
-use Rattle.alg_reify.specs.RingVerdict.{RingVerdict, IsRingVerdict}
+use Rattle.alg_reify.specs.RingVerdict.{RingVerdict, IsRingVerdict, SidesDiffer}
 use Rattle.alg_reify.specs.Laws as reify
 use Rattle.alg_ring.specs.Laws as ring
 use Rattle.alg_prover.specs.Answers.{answer_of, IsAnswerBy, IsAnswer}
@@ -96,7 +95,7 @@ no_only file e at left right (RingVerdict.No m a b) h same =
 
 no_by : reify.NoDiffers → (method : Method) (file : File) (i : ℕ) (at : Monomial) (left right : ℤ) → method ≡ ByRing →
     IsAnswerBy file (goal_at file i).equation method (No at left right) →
-    poly_of (goal_at file i).equation.left ≢ poly_of (goal_at file i).equation.right
+    SidesDiffer file (goal_at file i).equation at left right
 no_by law ByRing file i at left right by_ring (v, h, same) =
     let e = (goal_at file i).equation in law file e at left right (no_only file e at left right v h same)
 no_by law ByField file i at left right by_ring h = absurd h

@@ -1,9 +1,8 @@
 -- What the answers to goals say.
-use Rattle.std.specs.Prelude.{◌≡◌, ◌≢◌, ◌<◌, ℕ, ℤ, List, [], length}
+use Rattle.std.specs.Prelude.{◌≡◌, ◌<◌, ℕ, ℤ, List, [], length}
 use Rattle.alg_lines.specs.declared.answer.Answer.{Answer}
 use Rattle.alg_lines.specs.declared.answer.Answer.TheVariants.{Proved, Certified, No}
 use Rattle.alg_lines.specs.declared.cert.Cert.{Cert}
-use Rattle.alg_meaning.specs.PolynomialOf.{poly_of}
 use Rattle.alg_mono.specs.Mono.{Monomial}
 use Rattle.alg_terms.specs.declared.file.File.{File}
 use Rattle.alg_terms.specs.declared.goals.Method.TheVariants.{ByRing}
@@ -12,6 +11,7 @@ use Rattle.alg_terms.specs.Members.{goal_at}
 use Rattle.alg_terms.specs.Valid.{IsValid}
 use Rattle.alg_universe.specs.declared.universe.Universe.{Ghosts}
 use Rattle.alg_universe.specs.Right.{IsRight}
+use Rattle.alg_reify.specs.RingVerdict.{SidesDiffer}
 use Rattle.alg_prover.specs.Answers.{IsAnswer, AreAnswers}
 
 -- the goals of a file have at most one list of answers
@@ -30,9 +30,9 @@ CertifiedIsRight u =
     (file : File) (i : ℕ) (constants : List ℤ) (cert : Cert) → IsValid file → i < length file.goals →
     IsAnswer file (goal_at file i) (Certified constants cert) → IsRight u file i [] constants
 
--- the sides of a goal by ring that is answered no are different polynomials
+-- the sides of a goal by ring that is answered no are different polynomials, with the coefficients of the answer at its
+-- monomial, read as atoms
 abbrev pub NoDiffers : Type 0
 NoDiffers =
     (file : File) (i : ℕ) (at : Monomial) (left right : ℤ) → (goal_at file i).method ≡ ByRing →
-    IsAnswer file (goal_at file i) (No at left right) →
-    poly_of (goal_at file i).equation.left ≢ poly_of (goal_at file i).equation.right
+    IsAnswer file (goal_at file i) (No at left right) → SidesDiffer file (goal_at file i).equation at left right

@@ -20,7 +20,8 @@ pub fn proved_is_right<U: Universe>()
     alg_ring::laws::proved_is_right::<U>();
 }
 
-/// The sides of a goal by ring that is answered no are different polynomials.
+/// The sides of a goal by ring that is answered no are different polynomials: at the monomial of the
+/// answer, read as atoms, they have its two coefficients, which differ.
 pub fn no_differs()
     ensures { NoDiffers }
 {
