@@ -8,7 +8,9 @@ use Rattle.alg_meaning.specs.PolynomialOf.{poly_of}
 use Rattle.alg_meaning.specs.Fractions.{frac}
 use Rattle.alg_meaning.specs.Conditions.{denominators}
 use Rattle.alg_meaning.specs.TermOutcome.{term_outcome}
-use Rattle.alg_meaning.specs.FractionOutcome.{FractionOutcome, first_not_fine, of_polynomials, sum_of_fractions, product_of_fractions, quotient_of_fractions, power_of_fraction, frac_outcome}
+use Rattle.alg_meaning.specs.Atoms.{atom_cmp}
+use Rattle.alg_meaning.specs.FractionRules.{sum_of_fractions, product_of_fractions, quotient_of_fractions, power_of_fraction}
+use Rattle.alg_meaning.specs.FractionOutcome.{FractionOutcome, first_not_fine, of_polynomials, frac_outcome}
 
 pub term_outcome-Var : (k : ℕ) → term_outcome (Var k) ≡ Outcome.Fine
 unfolding
@@ -147,7 +149,7 @@ frac_outcome-Neg t = refl
 pub frac_outcome-Add : (t u : Term) →
     frac_outcome (Add t u) ≡
     first_not_fine (frac_outcome t)
-    (first_not_fine (frac_outcome u) (of_polynomials (sum_of_fractions (frac t) (frac u))))
+    (first_not_fine (frac_outcome u) (of_polynomials (sum_of_fractions atom_cmp (frac t) (frac u))))
 unfolding
     frac_outcome Rattle.alg_terms.specs.declared.term.Term.TheBlock.hidden-the_row-Term-0
     denote.Hole.Carrier.hidden
@@ -156,7 +158,7 @@ frac_outcome-Add t u = refl
 pub frac_outcome-Sub : (t u : Term) →
     frac_outcome (Sub t u) ≡
     first_not_fine (frac_outcome t)
-    (first_not_fine (frac_outcome u) (of_polynomials (sum_of_fractions (frac t) (frac u))))
+    (first_not_fine (frac_outcome u) (of_polynomials (sum_of_fractions atom_cmp (frac t) (frac u))))
 unfolding
     frac_outcome Rattle.alg_terms.specs.declared.term.Term.TheBlock.hidden-the_row-Term-0
     denote.Hole.Carrier.hidden
@@ -165,7 +167,7 @@ frac_outcome-Sub t u = refl
 pub frac_outcome-Mul : (t u : Term) →
     frac_outcome (Mul t u) ≡
     first_not_fine (frac_outcome t)
-    (first_not_fine (frac_outcome u) (of_polynomials (product_of_fractions (frac t) (frac u))))
+    (first_not_fine (frac_outcome u) (of_polynomials (product_of_fractions atom_cmp (frac t) (frac u))))
 unfolding
     frac_outcome Rattle.alg_terms.specs.declared.term.Term.TheBlock.hidden-the_row-Term-0
     denote.Hole.Carrier.hidden
@@ -175,7 +177,7 @@ pub frac_outcome-Div : (t u : Term) →
     frac_outcome (Div t u) ≡
     first_not_fine (frac_outcome t) (first_not_fine (frac_outcome u)
     (cond (is_nothing (frac u).top) (FractionOutcome.ZeroDenominator u)
-    (of_polynomials (quotient_of_fractions (frac t) (frac u)))))
+    (of_polynomials (quotient_of_fractions atom_cmp (frac t) (frac u)))))
 unfolding
     frac_outcome Rattle.alg_terms.specs.declared.term.Term.TheBlock.hidden-the_row-Term-0
     denote.Hole.Carrier.hidden
@@ -183,7 +185,7 @@ frac_outcome-Div t u = refl
 
 pub frac_outcome-Pow : (t : Term) (n : ℕ) →
     frac_outcome (Pow t n) ≡
-    first_not_fine (frac_outcome t) (of_polynomials (power_of_fraction (frac t) n))
+    first_not_fine (frac_outcome t) (of_polynomials (power_of_fraction atom_cmp (frac t) n))
 unfolding
     frac_outcome Rattle.alg_terms.specs.declared.term.Term.TheBlock.hidden-the_row-Term-0
     denote.Hole.Carrier.hidden

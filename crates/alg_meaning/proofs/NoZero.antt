@@ -14,7 +14,8 @@ use Rattle.alg_mono.specs.Numbers.{is_zero}
 use Rattle.alg_mono.proofs.Totals.{idr}
 use Rattle.alg_meaning.specs.Atoms.{Polynomial}
 use Rattle.alg_meaning.specs.Fractions.{frac, is_unit}
-use Rattle.alg_meaning.specs.Conditions.{denominators, is_constant, is_dropped}
+use Rattle.alg_meaning.specs.Conditions.{denominators, is_dropped}
+use Rattle.alg_meaning.specs.FractionsOver.{is_constant}
 use Rattle.alg_meaning.proofs.Typed.{IsTyped}
 use Rattle.alg_meaning.proofs.DeclaredKinds.{domain_of}
 use Rattle.alg_meaning.proofs.Denominators.{DividesInFields, NoZeroBelow}

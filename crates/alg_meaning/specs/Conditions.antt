@@ -1,12 +1,11 @@
 -- The conditions of a field goal: which denominators must not be zero.
-use Rattle.std.specs.Prelude.{Bool, false, ◌&&◌, ◌||◌, not, List, [], ◌∷◌, ◌++◌, filter}
+use Rattle.std.specs.Prelude.{Bool, ◌&&◌, ◌||◌, not, List, [], ◌∷◌, ◌++◌, filter}
 use Rattle.alg_terms.specs.declared.file.File.{File}
 use Rattle.alg_terms.specs.declared.goals.Equation.{Equation}
 use Rattle.alg_terms.specs.declared.term.Term.{Term, more_of-Term, Var, Int, Neg', Add', Sub', Mul', Div', Pow', Hom'}
 use Rattle.alg_terms.specs.Members.{sort_at}
-use Rattle.alg_mono.specs.Numbers.{is_zero}
-use Rattle.alg_meaning.specs.Atoms.{Polynomial}
 use Rattle.alg_meaning.specs.Fractions.{frac, is_unit}
+use Rattle.alg_meaning.specs.FractionsOver.{is_constant}
 use Rattle.alg_meaning.specs.Trees.{each_once}
 
 -- the denominators of a term as written, in postorder of their quotients: those in t, those in u, then u
@@ -20,11 +19,6 @@ denominators (Mul' _ (more_of-Term t _) _ (more_of-Term u _)) = denominators t +
 denominators (Div' _ (more_of-Term t _) _ (more_of-Term u _)) = denominators t ++ (denominators u ++ u ∷ [])
 denominators (Pow' _ (more_of-Term t _) n) = denominators t
 denominators (Hom' f _ (more_of-Term t _)) = denominators t
-
--- the polynomial is a constant other than zero
-abbrev pub is_constant : Polynomial → Bool
-is_constant (([], c) ∷ []) = not (is_zero c)
-is_constant _ = false
 
 -- no condition is needed: the numerator is 1 or -1, or a constant where the goal's sort has characteristic 0
 -- (a denominator whose numerator is zero has no fraction, and is never dropped)

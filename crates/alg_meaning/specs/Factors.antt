@@ -1,32 +1,31 @@
--- Products of powers of polynomials: finite maps from polynomials to exponents.
-use Rattle.std.specs.Prelude.{ℕ, List, ℤ}
+-- The words for factors at atoms.
+use Rattle.std.specs.Prelude.{ℤ}
 use Rattle.std.specs.declared.cmp.Ordering.{Ordering}
-use Rattle.std.specs.Ordering.{ordering_then, int_cmp}
-use Rattle.std.specs.Cmp.Lexicographic.{slice_cmp}
-use Rattle.alg_mono.specs.FiniteMaps.{total}
-use Rattle.alg_mono.specs.Monomials.{mono_over, lcm, grevlex}
-use Rattle.alg_meaning.specs.Atoms.{Monomial, Polynomial, atom_cmp, one_poly, times_poly, power_poly}
+use Rattle.alg_terms.specs.declared.term.Atom.{Atom}
+use Rattle.alg_meaning.specs.Atoms.{Monomial, Polynomial, atom_cmp}
+use Rattle.alg_meaning.specs.FactorsOver as over
+use Rattle.alg_meaning.specs.FactorsOver.{FactorsOver}
 
--- the order of the terms of polynomials: by the monomial in grevlex, then by the coefficient
-abbrev pub term_cmp : Monomial × ℤ → Monomial × ℤ → Ordering
-term_cmp e f = ordering_then (grevlex atom_cmp e.0 f.0) (int_cmp e.1 f.1)
-
--- the order of polynomials: term by term from their leads
-abbrev pub poly_cmp : Polynomial → Polynomial → Ordering
-poly_cmp p q = slice_cmp term_cmp p q
-
--- polynomials with exponents
+-- polynomials over atoms, with exponents
 abbrev pub Factors : Type 0
-Factors = List (Polynomial × ℕ)
+Factors = FactorsOver Atom
+
+-- the order of the terms of polynomials
+abbrev pub term_cmp : Monomial × ℤ → Monomial × ℤ → Ordering
+term_cmp e f = over.term_cmp atom_cmp e f
+
+-- the order of polynomials
+abbrev pub poly_cmp : Polynomial → Polynomial → Ordering
+poly_cmp p q = over.poly_cmp atom_cmp p q
 
 -- the product of all factors, each as often as its exponent says
 abbrev pub product : Factors → Polynomial
-product m = total one_poly times_poly (λ q e. power_poly q e) m
+product m = over.product atom_cmp m
 
--- the factors that a lacks of b: each exponent of b less that in a
+-- the factors that a lacks of b
 abbrev pub lacks : Factors → Factors → Factors
-lacks a b = mono_over poly_cmp b a
+lacks a b = over.lacks atom_cmp a b
 
 -- the greater exponent of each factor
 abbrev pub common : Factors → Factors → Factors
-common a b = lcm poly_cmp a b
+common a b = over.common atom_cmp a b

@@ -1,6 +1,9 @@
 pub mod Atoms
 pub mod PolynomialOf
 pub mod Values
+pub mod FactorsOver
+pub mod FractionsOver
+pub mod FractionRules
 pub mod Factors
 pub mod Orders
 pub mod Laws
