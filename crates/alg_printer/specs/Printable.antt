@@ -12,7 +12,7 @@ use Rattle.alg_terms.specs.declared.file.File.{File}
 use Rattle.alg_terms.specs.declared.goals.Goal.{Goal}
 use Rattle.alg_terms.specs.declared.goals.Method.{Method}
 use Rattle.alg_terms.specs.declared.goals.Method.TheVariants.{ByRing, ByField, ByNsatz}
-use Rattle.alg_terms.specs.declared.limits.TheConstants.{MAX_LITERAL}
+use Rattle.alg_terms.specs.Limits.{MAX_LITERAL}
 use Rattle.alg_terms.specs.declared.term.Atom.{Atom}
 use Rattle.alg_terms.specs.AnswerRules.{IsAnswerTerm}
 use Rattle.alg_terms.specs.Members.{goal_at}

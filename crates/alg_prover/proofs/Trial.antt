@@ -8,7 +8,7 @@ use Rattle.alg_terms.specs.declared.file.File.{File}
 use Rattle.alg_terms.specs.declared.file.Statement.{Statement}
 use Rattle.alg_terms.specs.declared.goals.Goal.{Goal}
 use Rattle.alg_terms.specs.declared.goals.Method.TheVariants.{ByRing}
-use Rattle.alg_terms.specs.declared.limits.TheConstants.{MAX_LITERAL}
+use Rattle.alg_terms.specs.Limits.{MAX_LITERAL}
 use Rattle.alg_terms.specs.GoalRules.{IsGoal}
 use Rattle.alg_terms.specs.Members.{sort_of_var}
 use Rattle.alg_terms.specs.Names.{IsName}

@@ -37,6 +37,7 @@ pub method_found : (text : List ℕ) (x : Value) (ts : List Token) → Found tex
     → RuleFound text rules.Method (act rules.Method x) ts
 unfolding grammar act
 method_found text x ts (inl (y, z, us, vs, e, s, (w, ew, sw, k, _), h)) =
+    let (well, named, few) = options_found text z vs h in
     let P : Value → Type 0 = λ v. RuleFound text rules.Method (act rules.Method v) ts in
     subst P (sym (e ∙ ap (λ v. two v z) ew)) (
       nsatz_of z,
@@ -45,15 +46,18 @@ method_found text x ts (inl (y, z, us, vs, e, s, (w, ew, sw, k, _), h)) =
       vs,
       refl,
       s ∙ ap (λ us. us ++ vs) sw,
-      options_found text z vs h,
-      inr (inr (is_nsatz w.kind k)),
+      well,
+      is_nsatz w.kind k ∙ ap (λ word. kinds.Word word) (sym named),
+      few,
     )
 method_found text x ts (inr (inl (w, ew, sw, k, _))) =
     let P : Value → Type 0 = λ v. RuleFound text rules.Method (act rules.Method v) ts in
-    subst P (sym ew) (method_word w.kind, w.start, w, [], refl, sw, well_word text w, method_words w (inl k))
+    let (word, few) = method_words w 0 (inl k) in
+    subst P (sym ew) (method_word w.kind, w.start, w, [], refl, sw, well_word text w, word, few)
 method_found text x ts (inr (inr (w, ew, sw, k, _))) =
     let P : Value → Type 0 = λ v. RuleFound text rules.Method (act rules.Method v) ts in
-    subst P (sym ew) (method_word w.kind, w.start, w, [], refl, sw, well_word text w, method_words w (inr k))
+    let (word, few) = method_words w 0 (inr k) in
+    subst P (sym ew) (method_word w.kind, w.start, w, [], refl, sw, well_word text w, word, few)
 
 pub goal_found : (text : List ℕ) (x : Value) (ts : List Token) → Found text (grammar rules.Goal) x ts
     → KindFound text (act rules.Goal x) ts
@@ -98,7 +102,7 @@ goal_found text x ts (
           e4,
           s4,
           (b, eb, sb, kb, _),
-          (m, place, v, back, em, sv, well, ring),
+          (m, place, v, back, em, sv, well, named, few),
         ),
       ),
     ),
@@ -117,7 +121,7 @@ goal_found text x ts (
       raws.Goal (sides t q u) m place,
       refl,
       (ft, fu, equal_words q.kind kq, well),
-      (front, b, v, back, whole, is_by b.kind kb, ring),
+      (front, b, v, back, whole, is_by b.kind kb, named, few),
     )
 
 -- a dot behind what a kind of statement spells
@@ -127,14 +131,15 @@ spelled_more (raws.Sort kind name char0) us vs ts e h = tt
 spelled_more (raws.Hom name from to) us vs ts e h = tt
 spelled_more (raws.Vars names sort) us vs ts e h = let long = ap length e ∙ length-append us vs in omega arith
 spelled_more (raws.Hyp name sides) us vs ts e h = tt
-spelled_more (raws.Goal sides way place) us vs ts e (front, b, w, back, s, by, ring) = (
+spelled_more (raws.Goal sides way place) us vs ts e (front, b, w, back, s, by, named, few) = (
   front,
   b,
   w,
   back ++ vs,
   e ∙ ap (λ r. r ++ vs) s ∙ append_assoc front (b ∷ w ∷ back) vs,
   by,
-  ring,
+  named,
+  let long = length-append back vs in omega arith,
 )
 
 body_found : (text : List ℕ) (x : Value) (ts : List Token) → Found text body x ts → KindFound text x ts

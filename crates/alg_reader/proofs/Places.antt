@@ -9,7 +9,7 @@ use Rattle.alg_reader.specs.Kinds.{variant, code}
 use Rattle.alg_reader.specs.Forms as rules
 use Rattle.alg_reader.specs.Forms.{Rule, Statement, Form, a, seq, alt, opt, many, rule, Tree, token, pair, left, right, none, some, end, more, node, spelled}
 use Rattle.alg_reader.specs.Grammar.{grammar, Fits, body}
-use Rattle.alg_reader.specs.Tokens.{TokensTo, open_with, GoesPast, HasNoDot}
+use Rattle.alg_reader.specs.Tokens.{Unread, TokensTo, open_with, GoesPast, HasNoDot}
 use Rattle.alg_reader.proofs.Variants.{is_dot}
 
 -- ---- places in lists of tokens
@@ -51,12 +51,12 @@ tokens_split text at stop [] after t (next, lexeme, _) = (at, refl, next, lexeme
 tokens_split text at stop (s ∷ seen) after t (next, lexeme, to) =
     let (mid, front, here, is) = tokens_split text s.stop stop seen after t to in (mid, (next, lexeme, front), here, is)
 
-pub past_split : (depth : ℕ) (last : Option TokenKind) (seen after : List Token)
-    → GoesPast depth last (seen ++ after) → GoesPast depth last seen
-past_split depth last [] after past = tt
-past_split depth last (s ∷ seen) after (free, past) = (
+pub past_split : (unread : Unread) (depth : ℕ) (last : Option TokenKind) (seen after : List Token)
+    → GoesPast unread depth last (seen ++ after) → GoesPast unread depth last seen
+past_split unread depth last [] after past = tt
+past_split unread depth last (s ∷ seen) after (free, past) = (
   free,
-  past_split (open_with depth s.kind) (Some s.kind) seen after past,
+  past_split unread (open_with depth s.kind) (Some s.kind) seen after past,
 )
 
 pub dot_split : (seen after : List Token) → HasNoDot (seen ++ after) → HasNoDot seen

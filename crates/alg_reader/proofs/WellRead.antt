@@ -1,22 +1,24 @@
 -- What was read is well read.
-use Rattle.std.proofs.Common.{◌≡◌, ◌≤◌, ℕ, nat_lt, inl, inr, true, false, cond, List, [], ◌∷◌, ◌++◌, length, refl, ap, sym, ◌∙◌, subst, arith, Option, Some, None, is_none, pos, ◌≤ℤ◌}
+use Rattle.std.proofs.Common.{◌≡◌, ◌≤◌, ◌+◌, ℕ, nat_lt, inl, inr, Bool, true, false, cond, List, [], ◌∷◌, ◌++◌, length, length-append, refl, ap, sym, ◌∙◌, subst, arith, Option, Some, None, is_none, pos, ◌≤ℤ◌}
 use Rattle.std.specs.List.{AllByRecursion}
 use Rattle.std.specs.Str.{IsUtf8, IsCharBoundary}
 use Rattle.std.proofs.lemmas.Bool.Decides.{nat_tests}
 use Rattle.std.proofs.lemmas.Int.{ints}
 use Rattle.std.proofs.lemmas.Str.{IsUtf8-drop, IsCharBoundary-end}
+use Rattle.alg_tokens.specs.declared.code.Code.{Code}
+use Rattle.alg_tokens.specs.declared.code.Code.TheVariants as code
 use Rattle.alg_tokens.specs.declared.token.Token.{Token}
 use Rattle.alg_tokens.specs.declared.token.TokenKind.{TokenKind}
 use Rattle.alg_tokens.specs.declared.token.TokenKind.TheVariants as kinds
+use Rattle.alg_tokens.specs.declared.token.Word.{Word}
 use Rattle.alg_tokens.specs.declared.token.Word.TheVariants as words
-use Rattle.alg_terms.specs.declared.limits.TheConstants.{MAX_LITERAL}
+use Rattle.alg_terms.specs.Limits.{MAX_LITERAL, MAX_DEPTH}
 use Rattle.alg_reader.specs.declared.raw.RawNode.TheVariants.{Int}
 use Rattle.alg_reader.specs.declared.raw.RawTerm.{RawTerm}
 use Rattle.alg_reader.specs.declared.raw.RawEquation.{RawEquation}
-use Rattle.alg_reader.specs.declared.raw.RawMethod.{RawMethod}
-use Rattle.alg_reader.specs.declared.raw.RawMethod.TheVariants as methods
 use Rattle.alg_reader.specs.declared.raw.RawKind.{RawKind}
 use Rattle.alg_reader.specs.declared.raw.RawKind.TheVariants as raws
+use Rattle.alg_reader.specs.declared.place.Place.{Place}
 use Rattle.alg_reader.specs.declared.reading.Raw.{Raw}
 use Rattle.alg_reader.specs.Forms.{Statement, rule}
 use Rattle.alg_reader.specs.TermMeaning.{Value}
@@ -24,13 +26,13 @@ use Rattle.alg_reader.specs.RawNodes.{at as node_at}
 use Rattle.alg_reader.specs.TermMeaning.{sort, hom, vars, hyp, goal}
 use Rattle.alg_reader.specs.Meaning.{kind_value}
 use Rattle.alg_reader.specs.RawTerms.{fold_under, fold_raw, depth_of, names_in, literals_in, exponents_in}
-use Rattle.alg_reader.specs.TooDeep.{kept, kept_sides, kept_kind}
-use Rattle.alg_reader.specs.Tokens.{open_with, bar, GoesPast}
+use Rattle.alg_reader.specs.TooDeep.{kept, kept_kind}
+use Rattle.alg_reader.specs.Tokens.{Unread, open_with, stop_code, GoesPast}
 use Rattle.alg_reader.specs.Statements.{StandsAt, IsRead}
-use Rattle.alg_reader.specs.WellRead.{IsWellTerm, IsWellKind, IsWellRead, members_in}
+use Rattle.alg_reader.specs.WellRead.{IsWellTerm, IsWellKind, IsWellRead, IsReadable, members_in, word_of, uses_in}
 use Rattle.alg_reader.specs.Laws.{StatementsAreWellRead}
 use Rattle.alg_reader.proofs.Boundaries.{IsTokenAt, tokens_at, tokens_long}
-use Rattle.alg_reader.proofs.Found.{all_of, IsFoundTerm, IsRingUnless, IsFoundKind, IsSpelledKind}
+use Rattle.alg_reader.proofs.Found.{all_of, IsFoundTerm, IsFoundKind, IsSpelledKind}
 use Rattle.alg_reader.proofs.Derivations.{found}
 
 -- ---- what is kept of terms
@@ -51,7 +53,7 @@ zero_well text head = record {
   depth = omega arith;
 }
 
-term_well : (text : List ℕ) (t : RawTerm) → depth_of t ≤ 1000 → IsFoundTerm text t → IsWellTerm text t
+term_well : (text : List ℕ) (t : RawTerm) → depth_of t ≤ MAX_DEPTH → IsFoundTerm text t → IsWellTerm text t
 term_well text t shallow h = record {
   names = all_of _ (names_in t) h.names;
   literals = all_of _ (literals_in t) h.literals;
@@ -60,7 +62,7 @@ term_well text t shallow h = record {
 }
 
 kept_well : (text : List ℕ) (t : RawTerm) → IsFoundTerm text t → IsWellTerm text (kept t)
-kept_well text t h = elim (nat_lt 1000 (depth_of t)) as (λ b. nat_lt 1000 (depth_of t) ≡ b
+kept_well text t h = elim (nat_lt MAX_DEPTH (depth_of t)) as (λ b. nat_lt MAX_DEPTH (depth_of t) ≡ b
     → IsWellTerm text (cond b (node_at t.head (Int (pos 0))) t)) [
       | true ↦ λ _. zero_well text t.head
       | false ↦ λ e. term_well text t (grind (arith, nat_tests)) h
@@ -106,69 +108,61 @@ one_kind kind other e = sym (kind_again kind) ∙ ap kind_of e ∙ kind_again ot
 
 -- ---- the method
 
-past_at : (depth : ℕ) (last : Option TokenKind) (front : List Token) (b w : Token) (back : List Token)
-    → GoesPast depth last (front ++ b ∷ w ∷ back) → (d : ℕ) × (bar d (Some b.kind) w.kind ≡ None)
-past_at depth last [] b w back past = (open_with depth b.kind, past.1.0)
-past_at depth last (t ∷ front) b w back past = past_at (open_with depth t.kind) (Some t.kind) front b w back past.1
+past_at : (unread : Unread) (depth : ℕ) (last : Option TokenKind) (front : List Token) (b w : Token) (back : List Token)
+    → GoesPast unread depth last (front ++ b ∷ w ∷ back) → (d : ℕ) × (stop_code unread d (Some b.kind) w.kind ≡ None)
+past_at unread depth last [] b w back past = (open_with depth b.kind, past.1.0)
+past_at unread depth last (t ∷ front) b w back past =
+    past_at unread (open_with depth t.kind) (Some t.kind) front b w back past.1
 
-barred : (d : ℕ) (b w : TokenKind) (k : TokenKind) → b ≡ kinds.Word words.By → w ≡ k
-    → bar d (Some (kinds.Word words.By)) k ≡ Some 20 → bar d (Some b) w ≡ None → ⊥
-barred d b w k by is stops free =
-    let here : bar d (Some b) w ≡ Some 20 = ap (λ x. bar d (Some x) w) by ∙ ap (bar d (Some (kinds.Word words.By))) is
-    ∙ stops in
-    let clash = ap (λ r. is_none r) (sym here ∙ free) in
-    cc
+no_later : (found : Bool) → cond {A = Option Code} found (Some code.Later) None ≡ None → found ≡ false
+no_later false free = refl
+no_later true free = absurd (let clash = ap (λ r. is_none r) free in cc)
 
--- behind `by` reading stops at all words but `ring`
-is_ring : (w : Token) (way : RawMethod) (d : ℕ) (b : TokenKind) → b ≡ kinds.Word words.By
-    → bar d (Some b) w.kind ≡ None → IsRingUnless w way → way ≡ methods.Ring
-is_ring w way d b by free (inl ring) = ring
-is_ring w way d b by free (inr (inl field)) = absurd (barred d b w.kind (kinds.Word words.Field) by field refl free)
-is_ring w way d b by free (inr (inr nsatz)) = absurd (barred d b w.kind (kinds.Word words.Nsatz) by nsatz refl free)
+-- a word that reading goes past can be read
+can_be_read : (unread : Unread) (d : ℕ) (b w : TokenKind) (word : Word) → b ≡ kinds.Word words.By → w ≡ kinds.Word word
+    → stop_code unread d (Some b) w ≡ None → unread (Some (kinds.Word words.By)) word ≡ false
+can_be_read unread d b w word by is free =
+    let P : TokenKind → Type 0 = λ k. stop_code unread d (Some k) w ≡ None in
+    let Q : TokenKind → Type 0 = λ k. stop_code unread d (Some (kinds.Word words.By)) k ≡ None in
+    no_later _ (subst Q is (subst P by free))
 
-way_is_ring : (e : RawEquation) (way : RawMethod) (place : ℕ) (ts : List Token) → GoesPast 0 None ts
-    → IsSpelledKind (raws.Goal e way place) ts → way ≡ methods.Ring
-way_is_ring e way place ts past (front, b, w, back, same, by, ring) =
-    let (d, free) = past_at 0 None front b w back (subst (GoesPast 0 None) same past) in
-    is_ring w way d b.kind by free ring
-
-method_of : RawKind → RawMethod
-method_of (raws.Goal e way place) = way
-method_of _ = methods.Ring
-
-kept_ring : (kind : RawKind) (ts : List Token) → GoesPast 0 None ts → IsSpelledKind kind ts
-    → method_of (kept_kind kind) ≡ methods.Ring
-unfolding method_of
-kept_ring raws.End ts past h = refl
-kept_ring (raws.Sort kind name char0) ts past h = refl
-kept_ring (raws.Hom name from to) ts past h = refl
-kept_ring (raws.Vars names of) ts past h = refl
-kept_ring (raws.Hyp name e) ts past h = refl
-kept_ring (raws.Goal e way place) ts past h = way_is_ring e way place ts past h
-
-goal_method : (kind : RawKind) (e : RawEquation) (way : RawMethod) (place : ℕ) → kind ≡ raws.Goal e way place
-    → method_of kind ≡ methods.Ring → way ≡ methods.Ring
-unfolding method_of
-goal_method kind e way place is ring = sym (ap method_of is) ∙ ring
+kept_readable : (unread : Unread) (kind : RawKind) (ts : List Token) → GoesPast unread 0 None ts → IsSpelledKind kind ts
+    → IsReadable unread (kept_kind kind)
+kept_readable unread raws.End ts past h = tt
+kept_readable unread (raws.Sort kind name char0) ts past h = tt
+kept_readable unread (raws.Hom name from to) ts past h = tt
+kept_readable unread (raws.Vars names of) ts past h = tt
+kept_readable unread (raws.Hyp name e) ts past h = tt
+kept_readable unread (raws.Goal e way place) ts past (front, b, w, back, same, by, named, _) =
+    let (d, free) = past_at unread 0 None front b w back (subst (GoesPast unread 0 None) same past) in
+    can_be_read unread d b.kind w.kind (word_of way) by named free
 
 -- ---- how long a statement is
 
-few_members : (kind : RawKind) (ts : List Token) → 1 ≤ length ts → GoesPast 0 None ts → IsSpelledKind kind ts
+few_members : (kind : RawKind) (ts : List Token) → 1 ≤ length ts → IsSpelledKind kind ts
     → members_in (kept_kind kind) ≤ length ts
-few_members raws.End ts some past h = some
-few_members (raws.Sort kind name char0) ts some past h = some
-few_members (raws.Hom name from to) ts some past h = some
-few_members (raws.Vars names of) ts some past h = h
-few_members (raws.Hyp name e) ts some past h = some
-few_members (raws.Goal e way place) ts some past h =
-    let P : RawMethod → Type 0 = λ m. members_in (raws.Goal (kept_sides e) m place) ≤ length ts in
-    subst P (sym (way_is_ring e way place ts past h)) some
+few_members raws.End ts some h = some
+few_members (raws.Sort kind name char0) ts some h = some
+few_members (raws.Hom name from to) ts some h = some
+few_members (raws.Vars names of) ts some h = h
+few_members (raws.Hyp name e) ts some h = some
+few_members (raws.Goal e way place) ts some (front, b, w, back, same, _, _, few) =
+    let long = ap length same ∙ length-append front (b ∷ w ∷ back) in
+    let all : 1 + uses_in way ≤ length ts = omega arith in
+    all
 
 -- ---- all of it
 
-stands_well : (text : List ℕ) (at : ℕ) (raw : Raw) → IsUtf8 text → IsCharBoundary text at → StandsAt text at raw
-    → IsWellRead text at raw
-stands_well text at raw u boundary (first, more, to, past, start, (kind, (v, fits, spells, means), (keeps, _))) =
+stands_well : (unread : Unread) (site : Place) (text : List ℕ) (at : ℕ) (raw : Raw) → IsUtf8 text
+    → IsCharBoundary text at → StandsAt unread site text at raw → IsWellRead text at raw × IsReadable unread raw.kind
+stands_well unread site text at raw u boundary (
+  first,
+  more,
+  to,
+  past,
+  start,
+  (kind, (v, fits, spells, means), (keeps, _)),
+) =
     let ts = first ∷ more in
     let (all, stops) = tokens_at text at raw.stop ts boundary.0 (IsUtf8-drop text at u boundary) to in
     let (k, e, here, spelled) = found text (rule Statement) v fits (subst (AllByRecursion (IsTokenAt text))
@@ -178,17 +172,17 @@ stands_well text at raw u boundary (first, more, to, past, start, (kind, (v, fit
     let P : RawKind → Type 0 = λ x. IsSpelledKind x ts in
     let written : IsSpelledKind kind ts = subst P same (subst (IsSpelledKind k) spells spelled) in
     let length_of = tokens_long text first.stop raw.stop more to.2 in
-    let members = few_members kind ts (omega arith) past written in
+    let members = few_members kind ts (omega arith) written in
     let some = all.0.some in
-    let counts : members_in raw.kind ≡ members_in (kept_kind kind) = ap members_in keeps in
-    record {
-      kind = subst (IsWellKind text) (sym keeps) (kind_well text kind parts);
-      starts = let from = to.0.0.0 in omega arith;
-      stops = stops;
-      long = λ _. omega arith;
-      by_ring = λ e way place is. goal_method (kept_kind kind) e way place (sym keeps ∙ is)
-          (kept_ring kind ts past written);
-    }
+    let counts : members_in raw.kind ≡ members_in (kept_kind kind) = ap members_in keeps in (
+      record {
+        kind = subst (IsWellKind text) (sym keeps) (kind_well text kind parts);
+        starts = let from = to.0.0.0 in omega arith;
+        stops = stops;
+        long = λ _. omega arith;
+      },
+      subst (IsReadable unread) (sym keeps) (kept_readable unread kind ts past written),
+    )
 
 end_well : (text : List ℕ) (at : ℕ) → at ≤ length text
     → IsWellRead text at (record { kind = raws.End; start = length text; stop = length text; too_deep = None })
@@ -197,10 +191,10 @@ end_well text at within = record {
   starts = within;
   stops = IsCharBoundary-end text;
   long = λ other. absurd (other refl);
-  by_ring = λ e way place is. cc;
 }
 
 pub well_read : StatementsAreWellRead
 unfolding IsRead
-well_read text at raw u boundary (inl (next, is)) = subst (IsWellRead text at) (sym is) (end_well text at boundary.0)
-well_read text at raw u boundary (inr stands) = stands_well text at raw u boundary stands
+well_read unread site text at raw u boundary (inl (next, is)) =
+    subst (λ (r : Raw). IsWellRead text at r × IsReadable unread r.kind) (sym is) (end_well text at boundary.0, tt)
+well_read unread site text at raw u boundary (inr stands) = stands_well unread site text at raw u boundary stands

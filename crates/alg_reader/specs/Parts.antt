@@ -1,7 +1,7 @@
 -- What a reader holds of the terms and statements that it has read.
 use Rattle.std.specs.Prelude.{ℕ, List, [], ◌∷◌, ◌+◌, min, max, nat_lt, if◌then◌else◌, Option, None, Some, pos}
 use Rattle.std.specs.Option.{option_or}
-use Rattle.alg_terms.specs.declared.limits.TheConstants.{MAX_DEPTH}
+use Rattle.alg_terms.specs.Limits.{MAX_DEPTH}
 use Rattle.alg_tokens.specs.declared.token.Token.{Token}
 use Rattle.alg_reader.specs.declared.parts.Part.{Part}
 use Rattle.alg_reader.specs.declared.parts.Said.{Said}

@@ -1,7 +1,7 @@
 -- Nodes that are too deep, and what is kept of the terms that have them.
 use Rattle.std.specs.Prelude.{ℕ, ◌+◌, max, nat_lt, if◌then◌else◌, Option, None, Some, pos}
 use Rattle.std.specs.Option.{option_or}
-use Rattle.alg_terms.specs.declared.limits.TheConstants.{MAX_DEPTH}
+use Rattle.alg_terms.specs.Limits.{MAX_DEPTH}
 use Rattle.alg_reader.specs.declared.raw.RawTerm.{RawTerm, roll-RawTerm}
 use Rattle.alg_reader.specs.declared.raw.RawNode.TheOpen.{RawNode-F}
 use Rattle.alg_reader.specs.declared.raw.RawNode.TheVariants.{Int}

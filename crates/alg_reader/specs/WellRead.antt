@@ -1,9 +1,12 @@
 -- What holds of every statement that was read from a text.
-use Rattle.std.specs.Prelude.{◌≡◌, ◌≢◌, ◌≤◌, ◌-◌, ◌+◌, ℕ, true, false, List, length, take, drop, All, Option, IfSome, pos, ◌≤ℤ◌}
+use Rattle.std.specs.Prelude.{◌≡◌, ◌≢◌, ◌≤◌, ◌-◌, ◌+◌, ℕ, true, false, List, length, take, drop, All, Option, Some, IfSome, pos, ◌≤ℤ◌}
 use Rattle.std.specs.Str.{IsCharBoundary}
-use Rattle.alg_terms.specs.declared.limits.TheConstants.{MAX_LITERAL, MAX_DEPTH}
+use Rattle.alg_terms.specs.Limits.{MAX_LITERAL, MAX_DEPTH}
 use Rattle.alg_terms.specs.Kinds.{IsDomain}
 use Rattle.alg_terms.specs.Names.{IsName}
+use Rattle.alg_tokens.specs.declared.token.TokenKind.TheVariants as kinds
+use Rattle.alg_tokens.specs.declared.token.Word.{Word}
+use Rattle.alg_tokens.specs.declared.token.Word.TheVariants as words
 use Rattle.alg_reader.specs.declared.raw.RawTerm.{RawTerm}
 use Rattle.alg_reader.specs.declared.raw.RawEquation.{RawEquation}
 use Rattle.alg_reader.specs.declared.raw.RawNumber.{RawNumber}
@@ -14,6 +17,7 @@ use Rattle.alg_reader.specs.declared.raw.RawKind.{RawKind}
 use Rattle.alg_reader.specs.declared.raw.RawKind.TheVariants as raws
 use Rattle.alg_reader.specs.declared.raw.Span.{Span}
 use Rattle.alg_reader.specs.declared.reading.Raw.{Raw}
+use Rattle.alg_reader.specs.Tokens.{Unread}
 use Rattle.alg_reader.specs.RawTerms.{depth_of, names_in, literals_in, exponents_in}
 
 -- the bytes of a span
@@ -68,10 +72,16 @@ IsWellKind text (raws.Vars names sort) = (1 ≤ length names) × All (IsNameAt t
 IsWellKind text (raws.Hyp name e) = IsNameAt text name × IsWellEquation text e
 IsWellKind text (raws.Goal e method method_at) = IsWellEquation text e × (e.nonzero ≡ false) × IsWellMethod text method
 
--- how many members of a list, or uses, a statement has
+-- how many uses a method has
+abbrev pub uses_in : RawMethod → ℕ
+uses_in methods.Ring = 0
+uses_in methods.Field = 0
+uses_in (methods.Nsatz uses power limit) = length uses
+
+-- how many members a statement declares, with the uses of a goal
 abbrev pub members_in : RawKind → ℕ
 members_in (raws.Vars names sort) = length names
-members_in (raws.Goal e (methods.Nsatz uses power limit) method_at) = 1 + length uses
+members_in (raws.Goal e method method_at) = 1 + uses_in method
 members_in _ = 1
 
 -- a statement that was read at a place of a text
@@ -82,6 +92,14 @@ pub record IsWellRead (text : List ℕ) (at : ℕ) (raw : Raw) : Type 0 where
   pub stops : IsCharBoundary text raw.stop
   -- each member, and each use, takes a byte at least
   pub long : raw.kind ≢ raws.End → raw.start + members_in raw.kind ≤ raw.stop
-  -- no goal is by field or nsatz yet
-  pub by_ring : (e : RawEquation) (method : RawMethod) (place : ℕ) → raw.kind ≡ raws.Goal e method place →
-      method ≡ methods.Ring
+
+-- the word of a method
+abbrev pub word_of : RawMethod → Word
+word_of methods.Ring = words.Ring
+word_of methods.Field = words.Field
+word_of (methods.Nsatz uses power limit) = words.Nsatz
+
+-- no goal is by a method whose word can't be read yet
+abbrev pub IsReadable : Unread → RawKind → Type 0
+IsReadable unread (raws.Goal e method method_at) = unread (Some (kinds.Word words.By)) (word_of method) ≡ false
+IsReadable unread kind = Unit {0}

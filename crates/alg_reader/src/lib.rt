@@ -1,10 +1,14 @@
 //! The statements of a text.
+//!
+//! `read_statement` gives the statement at a byte of a text, its end, or the first fault. The words of
+//! its contract are in `specs/Statements.antt`, over the grammar of `specs/Grammar.antt`.
 #![tactic(auto)]
 
 mod cursor;
 mod kinds;
 pub mod laws;
 mod parts;
+mod place;
 mod raw;
 mod reading;
 mod statements;
@@ -12,8 +16,9 @@ mod terms;
 mod tokens;
 mod uses;
 
+pub use place::Place;
 pub use raw::{RawEquation, RawKind, RawMethod, RawNode, RawNumber, RawTerm, RawUse, Span};
-pub use reading::{FileEnd, Place, Raw, read_statement};
+pub use reading::{FileEnd, Raw, read_statement};
 
 #[cfg(test)]
 mod tests;

@@ -1,12 +1,12 @@
 //! Terms as they are read: a node that is too deep is never built.
 
 ghost use Rattle.std.specs.Prelude.{◌≡◌, ◌<◌, ◌+◌, IfOk, None};
-ghost use Rattle.alg_terms.specs.declared.limits.TheConstants.{MAX_DEPTH};
+ghost use Rattle.alg_terms.specs.Limits.{MAX_DEPTH};
 ghost use Rattle.alg_reader.specs.RawNodes as spec;
 ghost use Rattle.alg_reader.specs.Parts as parts;
 
 use crate::raw::{RawKind, RawNode, RawNumber, RawTerm, Span};
-use alg_terms::MAX_DEPTH;
+use alg_terms::GREATEST_DEPTH;
 use alg_tokens::{Sign, Token, TokenKind};
 use sqlite_items::Boxed;
 use std::alloc::{AllocError, Global};
@@ -33,7 +33,7 @@ fn left_out(head: u32, too_deep: Option<u32>) -> Part
     let node = RawNode::Int(0);
     Part {
         term: RawTerm { head, node },
-        depth: MAX_DEPTH + 1,
+        depth: GREATEST_DEPTH + 1,
         too_deep: too_deep.or(Some(head)),
     }
 }
@@ -74,7 +74,7 @@ pub fn binary(alloc: Global, op: Token, left: Part, right: Part) -> Result<Part,
 {
     let below = left.depth.max(right.depth);
     let too_deep = left.too_deep.or(right.too_deep);
-    if below >= MAX_DEPTH {
+    if below >= GREATEST_DEPTH {
         return Ok(left_out(op.start, too_deep));
     }
     let node = joined(alloc, op.kind, left.term, right.term)?;
@@ -125,7 +125,7 @@ pub fn variable(token: Token) -> Part
 pub fn image(alloc: Global, name: Token, of: Part) -> Result<Part, AllocError>
     ensures { IfOk result (λ p. p ≡ parts.image_part name of) }
 {
-    if of.depth >= MAX_DEPTH {
+    if of.depth >= GREATEST_DEPTH {
         return Ok(left_out(name.start, of.too_deep));
     }
     let node = RawNode::Hom(span_of(name), Boxed::new(alloc, of.term)?);
@@ -135,7 +135,7 @@ pub fn image(alloc: Global, name: Token, of: Part) -> Result<Part, AllocError>
 fn opposite(alloc: Global, head: u32, of: Part) -> Result<Part, AllocError>
     ensures { IfOk result (λ p. p ≡ parts.opposite_part head of) }
 {
-    if of.depth >= MAX_DEPTH {
+    if of.depth >= GREATEST_DEPTH {
         return Ok(left_out(head, of.too_deep));
     }
     let node = RawNode::Neg(Boxed::new(alloc, of.term)?);
@@ -150,7 +150,7 @@ pub fn power_of(
 ) -> Result<Part, AllocError>
     ensures { IfOk result (λ p. p ≡ parts.power_part caret base exponent) }
 {
-    if base.depth >= MAX_DEPTH {
+    if base.depth >= GREATEST_DEPTH {
         return Ok(left_out(caret.start, base.too_deep));
     }
     let node = RawNode::Pow(Boxed::new(alloc, base.term)?, numeral_of(exponent));

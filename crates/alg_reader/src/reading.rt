@@ -4,28 +4,16 @@ ghost use Rattle.std.specs.Prelude.{◌≡◌, ◌≤◌, ◌∷◌, ◌++◌, [
 ghost use Rattle.std.specs.Str.{IsCharBoundary};
 ghost use Rattle.alg_tokens.specs.declared.token.Token.{Token};
 ghost use Rattle.alg_reader.specs.Statements.{IsRead};
-ghost use Rattle.alg_reader.specs.Tokens.{refusal};
-ghost use Rattle.alg_reader.specs.WellRead.{IsWellRead};
+ghost use Rattle.alg_reader.specs.Tokens.{refusal, unread_at};
+ghost use Rattle.alg_reader.specs.WellRead.{IsWellRead, IsReadable};
 
 use crate::cursor::{Cursor, Fault};
 use crate::parts::Said;
+use crate::place::Place;
 use crate::raw::RawKind;
-use crate::tokens::{ENDS, cut_statement};
-use alg_tokens::{Refusal, Token, TokenKind};
+use crate::tokens::cut_statement;
+use alg_tokens::{Code, Refusal, Token, TokenKind};
 use std::alloc::{AllocError, Global};
-
-/// The code of a token with which no statement begins.
-const SYNTAX: u8 = 4;
-
-/// Which statements may stand at a place, by what stood before it.
-#[derive(Clone, Copy, PartialEq, Eq, Debug)]
-pub enum Place {
-    Plain,
-    Start,
-    AfterGoal,
-    Lines,
-    Steps,
-}
 
 /// A statement with its first byte and the byte behind its `.`, and the head of the first node in
 /// postorder whose depth is over 1,000. In the place of such a node stands the literal 0 at its head.
@@ -59,20 +47,21 @@ impl From<AllocError> for FileEnd {
 /// Refused with the first fault: code 2 or 3 where the text can't be cut, 4 at the first token with
 /// which no statement begins, 5 where the text ends inside the statement, 19 at a `(` where 200 are
 /// open, and 20 at a word that can't be read yet. Takes time and memory in the statement's length.
-pub fn read_statement(alloc: Global, text: &str, at: u32, _place: Place) -> Result<Raw, FileEnd>
+pub fn read_statement(alloc: Global, text: &str, at: u32, place: Place) -> Result<Raw, FileEnd>
     requires size { length text.now ≤ 16777216 }
     requires boundary { IsCharBoundary text.now at }
-    ensures read { IsRead text.now at result }
+    ensures read { IsRead (unread_at place) place text.now at result }
     ensures well_read { IfOk result (IsWellRead text.now at) }
+    ensures readable { IfOk result (λ raw. IsReadable (unread_at place) raw.kind) }
 {
-    let cut = cut_statement(alloc, text, at)?;
+    let cut = cut_statement(alloc, text, at, place)?;
     let fault = cut.fault;
     let end = Token {
         kind: TokenKind::End,
         start: fault.at,
         stop: fault.at,
     };
-    if cut.tokens.is_empty() && fault.code == ENDS {
+    if cut.tokens.is_empty() && fault.code == Code::End.number() {
         return Ok(Raw {
             kind: RawKind::End,
             start: fault.at,
@@ -100,10 +89,7 @@ fn refusal(token: Token, fault: Refusal) -> Refusal
 {
     match token.kind {
         TokenKind::End => fault,
-        _ => Refusal {
-            code: SYNTAX,
-            at: token.start,
-        },
+        _ => Code::Syntax.at(token.start),
     }
 }
 

@@ -4,22 +4,12 @@ ghost use Rattle.std.specs.Prelude.{◌≡◌, ◌≤◌, ◌<◌, ◌^◌, ◌�
 ghost use Rattle.std.specs.Str.{IsCharBoundary};
 ghost use Rattle.alg_tokens.specs.declared.token.TokenKind.TheVariants as kinds;
 ghost use Rattle.alg_tokens.specs.declared.token.Sign.TheVariants as signs;
-ghost use Rattle.alg_reader.specs.Tokens.{open_with, bar, IsStatementCut};
+ghost use Rattle.alg_reader.specs.Tokens.{open_with, stop_code, unread_at, IsStatementCut};
 
-use alg_tokens::{Refusal, Sign, Token, TokenKind, Word, next_token};
+use crate::place::Place;
+use alg_terms::GREATEST_OPEN;
+use alg_tokens::{Code, Refusal, Sign, Token, TokenKind, next_token};
 use std::alloc::{AllocError, Global};
-
-/// How many parentheses may be open in a statement.
-pub const MOST_OPEN: u32 = 200;
-
-/// The code of a text that ends inside a statement.
-pub const ENDS: u8 = 5;
-
-/// The code of a parenthesis too many.
-const NESTING: u8 = 19;
-
-/// The code of a word that can't be read yet.
-const LATER: u8 = 20;
 
 /// The tokens of a statement as far as reading can go, and the fault that it meets behind them.
 #[derive(Debug, Drop)]
@@ -30,10 +20,10 @@ pub struct Cut {
 
 /// Cuts the tokens of the statement at a byte: up to its `.`, to a fault of the cutting, to the end of
 /// the text, or to a token at which reading stops.
-pub fn cut_statement(alloc: Global, text: &str, at: u32) -> Result<Cut, AllocError>
+pub fn cut_statement(alloc: Global, text: &str, at: u32, place: Place) -> Result<Cut, AllocError>
     requires size { length text.now ≤ 16777216 }
     requires boundary { IsCharBoundary text.now at }
-    ensures { IfOk result (λ cut. IsStatementCut text.now at cut.tokens.items cut.fault) }
+    ensures { IfOk result (λ cut. IsStatementCut (unread_at place) text.now at cut.tokens.items cut.fault) }
 {
     let mut tokens = Vec::new(alloc);
     let mut stop = at;
@@ -46,23 +36,17 @@ pub fn cut_statement(alloc: Global, text: &str, at: u32) -> Result<Cut, AllocErr
         };
         let at = token.start;
         if is_end(token.kind) {
-            return Ok(Cut {
-                tokens,
-                fault: Refusal { code: ENDS, at },
-            });
+            let fault = Code::End.at(at);
+            return Ok(Cut { tokens, fault });
         }
         tokens.push(token)?;
         if is_dot(token.kind) {
-            return Ok(Cut {
-                tokens,
-                fault: Refusal { code: ENDS, at },
-            });
+            let fault = Code::End.at(at);
+            return Ok(Cut { tokens, fault });
         }
-        if let Some(code) = bar(depth, last, token.kind) {
-            return Ok(Cut {
-                tokens,
-                fault: Refusal { code, at },
-            });
+        if let Some(code) = stop_code(place, depth, last, token.kind) {
+            let fault = code.at(at);
+            return Ok(Cut { tokens, fault });
         }
         depth = open_with(depth, token.kind);
         last = Some(token.kind);
@@ -82,21 +66,25 @@ fn is_dot(kind: TokenKind) -> bool
     matches!(kind, TokenKind::Sign(Sign::Dot))
 }
 
-/// The code with which reading stops at a token, after one of another kind.
-fn bar(depth: u32, last: Option<TokenKind>, kind: TokenKind) -> Option<u8>
-    ensures { result ≡ bar depth last kind }
+/// Why reading stops at a token, if it does, after one of another kind.
+fn stop_code(place: Place, depth: u32, last: Option<TokenKind>, kind: TokenKind) -> Option<Code>
+    ensures { result ≡ stop_code (unread_at place) depth last kind }
 {
-    match (last, kind) {
-        (_, TokenKind::Sign(Sign::ParenLeft)) => {
-            if depth < MOST_OPEN {
+    match kind {
+        TokenKind::Sign(Sign::ParenLeft) => {
+            if depth < GREATEST_OPEN {
                 None
             } else {
-                Some(NESTING)
+                Some(Code::Nesting)
             }
         }
-        (None, TokenKind::Word(Word::Hyp)) => Some(LATER),
-        (Some(TokenKind::Word(Word::By)), TokenKind::Word(Word::Field)) => Some(LATER),
-        (Some(TokenKind::Word(Word::By)), TokenKind::Word(Word::Nsatz)) => Some(LATER),
+        TokenKind::Word(word) => {
+            if place.is_unread(last, word) {
+                Some(Code::Later)
+            } else {
+                None
+            }
+        }
         _ => None,
     }
 }

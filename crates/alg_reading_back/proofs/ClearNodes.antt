@@ -10,6 +10,8 @@ use Rattle.alg_terms.specs.Sorts.{own_sort, Agree}
 use Rattle.alg_tokens.specs.declared.token.Sign.{Sign}
 use Rattle.alg_tokens.specs.Laws.{width}
 use Rattle.alg_tokens.specs.Spelling.{sign_spelling}
+use Rattle.alg_tokens.specs.declared.code.Code.TheVariants as code
+use Rattle.alg_tokens.specs.declared.code.Code.{Code}
 use Rattle.alg_reader.specs.declared.raw.RawNode.{RawNode}
 use Rattle.alg_reader.specs.declared.raw.RawNode.TheVariants as raw
 use Rattle.alg_reader.specs.declared.raw.RawTerm.{RawTerm}
@@ -29,9 +31,9 @@ never_differ (Some s) None h = refl
 never_differ (Some s) (Some t) h = grind (arith, nat_tests)
 
 -- a fault without a cause is none
-pub no_cause : (there : Bool) (code at : ℕ) → there ≡ false → fault_if there code at ≡ []
-no_cause true code at h = absurd (cc)
-no_cause false code at h = refl
+pub no_cause : (there : Bool) (what : Code) (at : ℕ) → there ≡ false → fault_if there what at ≡ []
+no_cause true what at h = absurd (cc)
+no_cause false what at h = refl
 
 module _ (g : File) (text : List ℕ) (may_divide : Bool) where
   -- the raw term resolves to the term, and has no faults at this final sort below these morphisms
@@ -67,7 +69,7 @@ module _ (g : File) (text : List ℕ) (may_divide : Bool) where
       let right = sorted g text may_divide r in
       let here = left.faults (Some s) (to_fields g above) in
       let there = right.faults (Some s) (to_fields g above) in
-      let own = no_cause (differ left.own right.own) 9 head (sorts_agree t u l r p.back q.back agree) in
+      let own = no_cause (differ left.own right.own) code.Sort head (sorts_agree t u l r p.back q.back agree) in
       ap (λ x. (x ++ here) ++ there) own ∙ ap (λ x. x ++ there) p.clear ∙ q.clear
 
   -- a node of two parts is clear where they are
@@ -143,6 +145,6 @@ module _ (g : File) (text : List ℕ) (may_divide : Bool) where
       (field_passes (kind_of g s) field) (all_to_fields g above fields) in
       record {
         back = both_back Div t u l r p.back q.back;
-        clear = ap (λ x. x ++ both.faults (Some s) (to_fields g above)) (no_cause _ 13 head free)
+        clear = ap (λ x. x ++ both.faults (Some s) (to_fields g above)) (no_cause _ code.Division head free)
             ∙ operator_clear s above t u head l r agree p q;
       }

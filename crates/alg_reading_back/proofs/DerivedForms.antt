@@ -4,6 +4,7 @@ use Rattle.alg_tokens.specs.declared.token.Token.{Token}
 use Rattle.alg_tokens.specs.declared.token.TokenKind.{TokenKind}
 use Rattle.alg_tokens.specs.Pieces.{Piece, Lexeme}
 use Rattle.alg_tokens.specs.Laws.{width, tokens_of}
+use Rattle.alg_reader.specs.declared.place.Place.TheVariants.{Plain}
 use Rattle.alg_reader.specs.declared.raw.RawKind.{RawKind}
 use Rattle.alg_reader.specs.declared.raw.RawTerm.{RawTerm}
 use Rattle.alg_reader.specs.Kinds.{variant, code}
@@ -122,7 +123,7 @@ front_before k bytes g q at there y there_is d =
 
 -- a body of a statement before its dot
 pub statement_from : (p : List Piece) (at : ℕ) (kind : RawKind) → IsDerived body (tokens_of at p) (kind_value kind) →
-    IsStatement (tokens_of at (p ++ dot)) kind
+    IsStatement Plain (tokens_of at (p ++ dot)) kind
 statement_from p at kind d =
     statement_of d.tree (at + width p) (tokens_of at (p ++ dot)) kind d.fits
     (ap (λ ts. ts ++ tokens_of (at + width p) dot) d.spells ∙ sym (tokens_append at p dot)) d.means

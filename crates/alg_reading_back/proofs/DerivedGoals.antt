@@ -10,6 +10,7 @@ use Rattle.alg_tokens.specs.declared.token.Word.TheVariants as words
 use Rattle.alg_tokens.specs.Pieces.{Piece, bytes_of}
 use Rattle.alg_tokens.specs.Spelling.{spelling, sign_spelling}
 use Rattle.alg_tokens.specs.Laws.{width, tokens_of}
+use Rattle.alg_reader.specs.declared.place.Place.TheVariants.{Plain}
 use Rattle.alg_reader.specs.declared.raw.RawKind.TheVariants as raws
 use Rattle.alg_reader.specs.declared.raw.RawMethod.{RawMethod}
 use Rattle.alg_reader.specs.declared.raw.RawTerm.{RawTerm}
@@ -65,7 +66,7 @@ names_said at (bytes ∷ names) = ap (λ rest. span (at + 1) bytes ∷ rest) (na
 -- by the place of the sort
 vars_read : (bytes sort : List ℕ) (names : List (List ℕ)) (at place : ℕ) →
     place ≡ at + 3 + 1 + length bytes + width (name_pieces names) + 1 + 1 + 1 →
-    IsStatement (tokens_of at (word words.Var ∷ space ∷ name bytes ∷ (name_pieces names
+    IsStatement Plain (tokens_of at (word words.Var ∷ space ∷ name bytes ∷ (name_pieces names
     ++ (space ∷ sign signs.Colon ∷ space ∷ name sort ∷ dot))))
     (raws.Vars (name_spans (at + 3) (bytes ∷ names)) (span place sort))
 unfolding grammar act
@@ -91,12 +92,12 @@ vars_read bytes sort names at place place_is =
 -- the same as they are laid
 named_vars_read : (bytes sort : List ℕ) (names : List (List ℕ)) →
     let front = word words.Var ∷ (name_pieces (bytes ∷ names) ++ (space ∷ sign signs.Colon ∷ space ∷ [])) in
-    (at : ℕ) → IsStatement (tokens_of at (front ++ (name sort ∷ dot)))
+    (at : ℕ) → IsStatement Plain (tokens_of at (front ++ (name sort ∷ dot)))
     (raws.Vars (name_spans (at + 3) (bytes ∷ names)) (span (at + width front) sort))
 named_vars_read bytes sort names at =
     let colon = space ∷ sign signs.Colon ∷ space ∷ [] in
     let wide = width_append (name_pieces names) colon in
-    subst (λ pieces. IsStatement (tokens_of at (word words.Var ∷ space ∷ name bytes ∷ pieces))
+    subst (λ pieces. IsStatement Plain (tokens_of at (word words.Var ∷ space ∷ name bytes ∷ pieces))
     (raws.Vars (name_spans (at + 3) (bytes ∷ names)) (span (at + (3 + (1 + (length bytes + width (name_pieces names
     ++ colon))))) sort)))
     (sym (append_assoc (name_pieces names) colon (name sort ∷ dot)))
@@ -124,7 +125,7 @@ goal_read : (l r m : List Piece) (t u : RawTerm) (way : RawMethod) (at left_at e
     by_at ≡ right_at + width r + 1 + 2 + 1 → IsDerived (rule rules.Sum) (tokens_of left_at l) (term t) →
     IsDerived (rule rules.Sum) (tokens_of right_at r) (term u) →
     IsDerived (rule rules.Method) (tokens_of by_at m) (method way by_at) →
-    IsStatement (tokens_of at ((word words.Goal ∷ space ∷ (l ++ (space ∷ sign signs.Equal ∷ space ∷
+    IsStatement Plain (tokens_of at ((word words.Goal ∷ space ∷ (l ++ (space ∷ sign signs.Equal ∷ space ∷
     (r ++ (space ∷ word words.By ∷ space ∷ m))))) ++ dot))
     (raws.Goal (record { left = t; relation = equal_at; nonzero = false; right = u }) way by_at)
 unfolding grammar act
@@ -166,7 +167,7 @@ goal_derived file goal at =
     let r_wide = width_append r (space ∷ word words.By ∷ space ∷ []) in
     let by_wide = width_append middle (r ++ (space ∷ word words.By ∷ space ∷ [])) in
     let raw = (laid_goal file goal).raw at in
-    subst (λ pieces. IsStatement (tokens_of at pieces) raw)
+    subst (λ pieces. IsStatement Plain (tokens_of at pieces) raw)
     (sym (goal_pieces l r (method_pieces file goal.method)))
     (goal_read l r (method_pieces file goal.method) _ _ (method_raw file (at + width by) goal.method)
     at (at + width front) (at + width equal) (at + width middle) (at + width by)

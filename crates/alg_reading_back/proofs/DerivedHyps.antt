@@ -8,6 +8,7 @@ use Rattle.alg_tokens.specs.declared.token.Word.TheVariants as words
 use Rattle.alg_tokens.specs.Pieces.{Piece}
 use Rattle.alg_tokens.specs.Spelling.{spelling, sign_spelling}
 use Rattle.alg_tokens.specs.Laws.{width, tokens_of}
+use Rattle.alg_reader.specs.declared.place.Place.TheVariants.{Plain}
 use Rattle.alg_reader.specs.declared.raw.RawKind.TheVariants as raws
 use Rattle.alg_reader.specs.declared.raw.RawTerm.{RawTerm}
 use Rattle.alg_reader.specs.Forms as rules
@@ -56,7 +57,7 @@ hyp_read : (bytes : List ℕ) (nonzero : Bool) (l r : List Piece) (t u : RawTerm
     right_at ≡ relation_at + length (sign_spelling (relation_sign nonzero)) + 1 →
     IsDerived (rule rules.Sum) (tokens_of left_at l) (term t) →
     IsDerived (rule rules.Sum) (tokens_of right_at r) (term u) →
-    IsStatement (tokens_of at ((word words.Hyp ∷ space ∷ name bytes ∷ space ∷ sign signs.Colon ∷ space ∷
+    IsStatement Plain (tokens_of at ((word words.Hyp ∷ space ∷ name bytes ∷ space ∷ sign signs.Colon ∷ space ∷
     (l ++ (space ∷ sign (relation_sign nonzero) ∷ space ∷ r))) ++ dot))
     (raws.Hyp (span place bytes)
     (record { left = t; relation = relation_at; nonzero = nonzero; right = u }))
@@ -105,7 +106,7 @@ hyp_derived file hyp at =
     let equal_wide = width_append colon (l ++ (space ∷ [])) in
     let middle_wide = width_append equal (sign (relation_sign hyp.nonzero) ∷ space ∷ []) in
     let raw = (laid_hyp file hyp).raw at in
-    subst (λ pieces. IsStatement (tokens_of at pieces) raw) (sym (hyp_pieces hyp.name hyp.nonzero l r))
+    subst (λ pieces. IsStatement Plain (tokens_of at pieces) raw) (sym (hyp_pieces hyp.name hyp.nonzero l r))
     (hyp_read hyp.name hyp.nonzero l r _ _ at (at + width front) (at + width colon) (at + width equal)
     (at + width middle) (omega arith) (omega arith) (omega arith) (omega arith)
     (term_means rules.Sum _ _ (term_derived file e.left (at + width colon)))

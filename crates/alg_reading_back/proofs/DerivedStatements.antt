@@ -14,6 +14,7 @@ use Rattle.alg_tokens.specs.declared.token.Word.{Word}
 use Rattle.alg_tokens.specs.declared.token.Word.TheVariants as words
 use Rattle.alg_tokens.specs.Spelling.{spelling}
 use Rattle.alg_tokens.specs.Laws.{tokens_of}
+use Rattle.alg_reader.specs.declared.place.Place.TheVariants.{Plain}
 use Rattle.alg_reader.specs.declared.raw.RawKind.{RawKind}
 use Rattle.alg_reader.specs.declared.raw.RawKind.TheVariants as raws
 use Rattle.alg_reader.specs.Forms as rules
@@ -32,11 +33,11 @@ use Rattle.alg_reading_back.proofs.DerivedTerms.{sign_at}
 
 -- wherever it begins, its pieces are the raw statement
 abbrev pub StatementReads : LaidStatement → Type 0
-StatementReads laid = (at : ℕ) → IsStatement (tokens_of at laid.pieces) (laid.raw at)
+StatementReads laid = (at : ℕ) → IsStatement Plain (tokens_of at laid.pieces) (laid.raw at)
 
 -- a statement's body and its dot
 pub statement_of : (v : Tree) (dot_at : ℕ) (tokens : List Token) (kind : RawKind) → Fits body v →
-    spelled v ++ (sign_at signs.Dot dot_at ∷ []) ≡ tokens → value.value v ≡ kind_value kind → IsStatement tokens kind
+    spelled v ++ (sign_at signs.Dot dot_at ∷ []) ≡ tokens → value.value v ≡ kind_value kind → IsStatement Plain tokens kind
 unfolding grammar act
 statement_of v at tokens kind fits spells says = (
   node rules.Statement (pair v (token (sign_at signs.Dot at))),
@@ -107,7 +108,7 @@ sort_derived sort domain = sort_read sort.kind sort.name sort.char0 domain
 hom_read : (bytes from to : List ℕ) (at name_place from_place to_place : ℕ) → name_place ≡ at + 3 + 1 →
     from_place ≡ at + 3 + 1 + length bytes + 1 + 1 + 1 →
     to_place ≡ at + 3 + 1 + length bytes + 1 + 1 + 1 + length from + 1 + 2 + 1 →
-    IsStatement (tokens_of at (word words.Hom ∷ space ∷ name bytes ∷ space ∷ sign signs.Colon ∷ space ∷ name from
+    IsStatement Plain (tokens_of at (word words.Hom ∷ space ∷ name bytes ∷ space ∷ sign signs.Colon ∷ space ∷ name from
     ∷ space ∷ sign signs.Arrow ∷ space ∷ name to ∷ dot))
     (raws.Hom (span name_place bytes) (span from_place from) (span to_place to))
 unfolding grammar act

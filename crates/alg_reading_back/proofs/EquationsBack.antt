@@ -12,6 +12,7 @@ use Rattle.alg_terms.specs.TermRules.{IsTerm, IsInRange}
 use Rattle.alg_terms.specs.Valid.{names_of}
 use Rattle.alg_tokens.specs.Laws.{width}
 use Rattle.alg_tokens.specs.Pieces.{Piece}
+use Rattle.alg_tokens.specs.declared.code.Code.TheVariants as code
 use Rattle.alg_reader.specs.declared.raw.RawEquation.{RawEquation}
 use Rattle.alg_reader.specs.declared.raw.RawTerm.{RawTerm}
 use Rattle.alg_typing.specs.NameFaults.{term_names, equation_names}
@@ -78,7 +79,7 @@ module _ (g : File) (text : List ℕ) (may_divide : Bool) (e : Equation) (raw : 
       ap (λ o. differ o r.own) (left.own may_divide) ∙ ap (differ (own_sort g e.left)) (right.own may_divide)
       ∙ never_differ (own_sort g e.left) (own_sort g e.right) agree in
       four_empty _ _ _ _ (ap (λ o. l.faults o true) same ∙ left.sorts) (ap (λ o. r.faults o true) same ∙ right.sorts)
-      (no_cause (differ l.own r.own) 9 raw.relation apart) (no_cause (is_none final) 10 raw.relation (ap is_none same))
+      (no_cause (differ l.own r.own) code.Sort raw.relation apart) (no_cause (is_none final) code.NoSort raw.relation (ap is_none same))
 
   sides_back : IsEquationBack g text may_divide e raw
   sides_back =

@@ -1,8 +1,11 @@
 -- Pieces that stand have the parentheses of their kinds, and where their bytes open few, so do their tokens.
-use Rattle.std.proofs.Common.{◌≡◌, ◌≤◌, ℕ, ◌+◌, true, false, List, [], ◌∷◌, ◌++◌, flat_map, length, sym, ap, subst, arith, append_assoc}
+use Rattle.std.proofs.Common.{◌≡◌, ◌≤◌, ℕ, ◌+◌, true, false, List, [], ◌∷◌, ◌++◌, flat_map, length, Option, None, Some, refl, sym, ap, subst, arith, append_assoc}
 use Rattle.std.specs.Char.{IsAsciiDigit}
 use Rattle.std.specs.List.{AllByRecursion}
 use Rattle.std.proofs.lemmas.Bool.Decides.{nat_tests}
+use Rattle.alg_terms.specs.Limits.{MAX_OPEN}
+use Rattle.alg_tokens.specs.declared.token.Token.{Token}
+use Rattle.alg_tokens.specs.declared.token.TokenKind.{TokenKind}
 use Rattle.alg_tokens.specs.declared.token.TokenKind.TheVariants as kinds
 use Rattle.alg_tokens.specs.Laws.{tokens_of}
 use Rattle.alg_tokens.specs.Pieces.{Piece, Blank, Lexeme, bytes_of, is_blank}
@@ -11,8 +14,9 @@ use Rattle.alg_tokens.proofs.Leads.{word_spelled}
 use Rattle.alg_tokens.proofs.Neighbours.{spell, AllStand}
 use Rattle.alg_tokens.proofs.Standing.{Stands}
 use Rattle.alg_reader.specs.Tokens as reader
-use Rattle.alg_reading_back.specs.ReadingBack.{most_open, HasFewOpen}
-use Rattle.alg_reading_back.proofs.OpenBytes.{is_paren, NoParens, IsEven, opens_first, past_plain, past_lexeme}
+use Rattle.alg_reader.specs.Tokens.{GoesPast, none_unread, stop_code}
+use Rattle.alg_reading_back.specs.ReadingBack.{most_open}
+use Rattle.alg_reading_back.proofs.OpenBytes.{is_paren, NoParens, IsEven, opens_first, past_plain, past_lexeme, sign_passes}
 use Rattle.alg_reading_back.proofs.PlainNames.{spelled_plain}
 
 -- a piece has the parentheses of its kind
@@ -53,9 +57,15 @@ even_standing (piece ∷ pieces) rest (stands, stand) =
 
 -- ---- how many are open
 
+-- at most as many parentheses as may be are open at each of these tokens, where so many are open before them
+abbrev pub HasFewOpen : ℕ → List Token → Type 0
+HasFewOpen depth [] = Unit {0}
+HasFewOpen depth (token ∷ tokens) =
+    (reader.open_with depth token.kind ≤ MAX_OPEN) × HasFewOpen (reader.open_with depth token.kind) tokens
+
 -- few are open at each token where the bytes open few
 pub few_open : (depth at : ℕ) (pieces : List Piece) (rest : List ℕ) → Even pieces →
-    most_open depth (flat_map bytes_of pieces ++ rest) ≤ 200 → HasFewOpen depth (tokens_of at pieces)
+    most_open depth (flat_map bytes_of pieces ++ rest) ≤ MAX_OPEN → HasFewOpen depth (tokens_of at pieces)
 few_open depth at [] rest even few = tt
 few_open depth at (Blank bytes ∷ pieces) rest even few =
     let later = flat_map bytes_of pieces ++ rest in
@@ -68,3 +78,21 @@ few_open depth at (Lexeme kind bytes ∷ pieces) rest even few =
     let past = past_lexeme depth kind bytes later even.0 in
     let first = opens_first (reader.open_with depth kind) later in
     (omega arith, few_open (reader.open_with depth kind) (at + length bytes) pieces rest even.1 (omega arith))
+
+-- where few are open, reading by the whole grammar goes past each kind of token
+kind_passes : (depth : ℕ) (last : Option TokenKind) (kind : TokenKind) → reader.open_with depth kind ≤ MAX_OPEN →
+    stop_code none_unread depth last kind ≡ None
+kind_passes depth last (kinds.Sign s) few = sign_passes none_unread depth last s few
+kind_passes depth last (kinds.Word w) few = refl
+kind_passes depth last (kinds.Number n) few = refl
+kind_passes depth last kinds.Name few = refl
+kind_passes depth last kinds.End few = refl
+
+-- and past all tokens
+pub few_pass : (depth : ℕ) (last : Option TokenKind) (tokens : List Token) → HasFewOpen depth tokens →
+    GoesPast none_unread depth last tokens
+few_pass depth last [] few = tt
+few_pass depth last (token ∷ tokens) (first, few) = (
+  kind_passes depth last token.kind first,
+  few_pass (reader.open_with depth token.kind) (Some token.kind) tokens few,
+)

@@ -1,4 +1,4 @@
--- The canonical text of a file without answers is the file by the whole grammar.
+-- The statements of a file's canonical text, each behind the front of those before it.
 use Rattle.std.proofs.Common.{◌≡◌, ◌≤◌, ℕ, zero, suc, ◌+◌, ◌-◌, List, [], ◌∷◌, ◌++◌, length, take, None, refl, sym, ap, ◌∙◌, subst, arith, append_assoc, append-nil}
 use Rattle.std.specs.List.{AllByRecursion}
 use Rattle.std.specs.Option.{option_or, option_map}
@@ -7,23 +7,27 @@ use Rattle.std.proofs.lemmas.List.Elements.{recursion_from_All}
 use Rattle.alg_terms.specs.declared.file.File.{File}
 use Rattle.alg_terms.specs.declared.file.Statement.{Statement}
 use Rattle.alg_terms.specs.declared.file.Statement.TheVariants as statement
+use Rattle.alg_terms.specs.Limits.{MAX_OPEN}
 use Rattle.alg_terms.specs.Order.{numbers_from}
 use Rattle.alg_terms.specs.Valid.{IsValid}
 use Rattle.alg_tokens.specs.Laws.{width, tokens_of, CutFromAnywhere}
 use Rattle.alg_tokens.specs.Pieces.{Piece}
 use Rattle.alg_tokens.proofs.Neighbours.{spell, spell_append, width_append}
+use Rattle.alg_tokens.specs.declared.code.Code.TheVariants as code
+use Rattle.alg_tokens.specs.Codes.{fault_at}
 use Rattle.alg_reader.specs.declared.reading.Raw.{Raw}
+use Rattle.alg_reader.specs.Tokens.{GoesPast, none_unread}
 use Rattle.alg_reader.proofs.Found.{all_split}
-use Rattle.alg_typing.specs.Faults.{fault, first_of}
+use Rattle.alg_typing.specs.Faults.{first_of}
 use Rattle.alg_typing.specs.NameFaults.{name_faults}
 use Rattle.alg_typing.specs.Reading.{first_fault, no_statements}
 use Rattle.alg_typing.specs.SortFaults.{sort_faults}
 use Rattle.alg_printer.specs.Text.{text_of, statement_text, IsStatementOf}
-use Rattle.alg_reading_back.specs.ReadingBack.{most_open, OpensFew, HasFewOpen, StandsByGrammar, HasStatements, IsByGrammar, IsWrittenByGrammar}
-use Rattle.alg_reading_back.proofs.ClosedFronts.{IsClosedBy, nothing_closed, front_closed, closed_next}
+use Rattle.alg_reading_back.specs.ReadingBack.{most_open, OpensFew}
+use Rattle.alg_reading_back.proofs.ClosedFronts.{IsClosedBy, front_closed}
 use Rattle.alg_reading_back.proofs.DeclarationsBack.{sort_taken, hom_taken}
-use Rattle.alg_reading_back.proofs.EvenPieces.{even_standing, few_open}
-use Rattle.alg_reading_back.proofs.FileTokens.{statement_of, statement_tokens, text_ends, statement_piece_bytes}
+use Rattle.alg_reading_back.proofs.EvenPieces.{HasFewOpen, even_standing, few_open, few_pass}
+use Rattle.alg_reading_back.proofs.FileTokens.{statement_of, statement_piece_bytes}
 use Rattle.alg_reading_back.proofs.FrontNames.{front_distinct}
 use Rattle.alg_reading_back.proofs.Fronts.{front, next}
 use Rattle.alg_reading_back.proofs.GoalsBack.{goal_taken}
@@ -34,9 +38,7 @@ use Rattle.alg_reading_back.proofs.NextLists.{same_lists}
 use Rattle.alg_reading_back.proofs.Placed.{Placed, placed_all}
 use Rattle.alg_reading_back.proofs.SpelledStatements.{line_pieces, spelled_statement}
 use Rattle.alg_reading_back.proofs.StandingStatements.{stand_statement}
-use Rattle.alg_reading_back.proofs.StatementsRead.{statement_stands}
 use Rattle.alg_reading_back.proofs.Taken.{IsTaken}
-use Rattle.alg_reading_back.proofs.Utf8Text.{text_utf8}
 use Rattle.alg_reading_back.proofs.VarLists.{numbers_long}
 use Rattle.alg_reading_back.proofs.VarsBack.{vars_taken}
 
@@ -78,7 +80,7 @@ pub faultless : (g next : File) (text : List ℕ) (raw : Raw) → raw.too_deep �
 faultless g next text raw shallow taken =
     let sorts = first_of (sort_faults g text raw.kind) in
     let names = first_of (name_faults g text raw.kind) in
-    ap (λ deep. option_or (option_map (fault 11) deep) (option_or names sorts)) shallow
+    ap (λ deep. option_or (option_map (fault_at code.Depth) deep) (option_or names sorts)) shallow
     ∙ ap (λ faults. option_or (first_of faults) sorts) taken.names ∙ ap first_of taken.sorts
 
 module _ (law : CutFromAnywhere) (file : File) (valid : IsValid file) (few : OpensFew file) where
@@ -105,14 +107,14 @@ module _ (law : CutFromAnywhere) (file : File) (valid : IsValid file) (few : Ope
   }
 
   pub few_there : (before after : List Statement) (s : Statement) → file.order ≡ before ++ (s ∷ after) →
-      most_open 0 (statement_text file [] s) ≤ 200
+      most_open 0 (statement_text file [] s) ≤ MAX_OPEN
   few_there before after s split =
-      let P : Statement → Type 0 = λ s. most_open 0 (statement_text file [] s) ≤ 200 in
+      let P : Statement → Type 0 = λ s. most_open 0 (statement_text file [] s) ≤ MAX_OPEN in
       let all = subst (AllByRecursion P) split (recursion_from_All P file.order few) in
       (all_split P before (s ∷ after) all).1.0
 
   -- the parentheses of its tokens are those of its text
-  tokens_few : (s : Statement) (at : ℕ) → IsStatementOf file s → most_open 0 (statement_text file [] s) ≤ 200 →
+  tokens_few : (s : Statement) (at : ℕ) → IsStatementOf file s → most_open 0 (statement_text file [] s) ≤ MAX_OPEN →
       HasFewOpen 0 (tokens_of at (pieces_of s))
   tokens_few s at is low =
       let rest = spell (line_feed ∷ []) in
@@ -122,13 +124,12 @@ module _ (law : CutFromAnywhere) (file : File) (valid : IsValid file) (few : Ope
       ap (most_open 0) (sym (spell_append (pieces_of s) (line_feed ∷ [])) ∙ spelled_statement file s is) in
       few_open 0 at (pieces_of s) rest even (omega (arith, whole, low))
 
-  stands_there : (before after : List Statement) (s : Statement) → file.order ≡ before ++ (s ∷ after) →
-      StandsByGrammar text (place before) (raw_of before s)
-  stands_there before after s split =
-      let is = statement_of file valid before after s split in
-      statement_stands file valid s is text (place before) (begin before) (begin before + width (pieces_of s))
-      (statement_tokens law file valid before after s split)
-      (tokens_few s (begin before) is (few_there before after s split))
+  -- reading by the whole grammar goes past it
+  pub passed_by_all : (before after : List Statement) (s : Statement) → file.order ≡ before ++ (s ∷ after) →
+      GoesPast none_unread 0 None (tokens_of (begin before) (pieces_of s))
+  passed_by_all before after s split =
+      few_pass 0 None (tokens_of (begin before) (pieces_of s))
+      (tokens_few s (begin before) (statement_of file valid before after s split) (few_there before after s split))
 
   placed_there : (before after : List Statement) (s : Statement) → file.order ≡ before ++ (s ∷ after) →
       Placed text (begin before) (pieces_of s)
@@ -168,37 +169,3 @@ module _ (law : CutFromAnywhere) (file : File) (valid : IsValid file) (few : Ope
       ∙ width_append (file_pieces file before) line in
       let feed = width_append (pieces_of s) (line_feed ∷ []) in
       omega (arith, wide, feed)
-
-  -- all of them, and then the end
-  Has : List Statement → Type 0
-  Has before = (raws : List Raw) × HasStatements text (place before) (front file before) raws file
-
-  has_on : (after before : List Statement) → file.order ≡ before ++ after → IsClosedBy file before → Has before
-  unfolding Has
-  has_on [] before split closed =
-      subst Has (split ∙ append-nil before) ([], (text_ends law file valid, sym (whole_front file valid)))
-  has_on (s ∷ after) before split closed =
-      let is = statement_of file valid before after s split in
-      let taken = taken_there before after s split is closed in
-      let raw = raw_of before s in
-      let further = before ++ s ∷ [] in
-      let (raws, more) = has_on after further (split ∙ sym (append_assoc before (s ∷ []) after))
-      (closed_next file valid before after s split is closed) in
-      let behind = subst (λ at. HasStatements text at (front file further) raws file) (next_place before s) more in
-      let from = subst (λ g. HasStatements text raw.stop g raws file) (sym taken.extends) behind in (
-        raw ∷ raws,
-        (
-          stands_there before after s split,
-          faultless (front file before) (front file further) text raw refl taken,
-          from,
-        ),
-      )
-
-  by_grammar : IsByGrammar text file
-  unfolding Has
-  by_grammar =
-      let (raws, has) = has_on file.order [] refl (nothing_closed file) in
-      (text_utf8 file valid, (raws, subst (λ g. HasStatements text 0 g raws file) (empty_front file) has))
-
-pub written_by_grammar : CutFromAnywhere → IsWrittenByGrammar
-written_by_grammar law file valid few = by_grammar law file valid few

@@ -46,7 +46,7 @@ pub mod StatementsRead
 pub mod Steps
 pub mod Taken
 pub mod TermsBack
-pub mod TodayBack
+pub mod Readings
 pub mod UsedBefore
 pub mod UsesBack
 pub mod Utf8Text

@@ -12,12 +12,13 @@ use Rattle.alg_terms.specs.declared.goals.Equation.{Equation}
 use Rattle.alg_terms.specs.declared.goals.Method.{Method}
 use Rattle.alg_terms.specs.declared.goals.Method.TheVariants.{ByRing, ByField, ByNsatz}
 use Rattle.alg_terms.specs.declared.goals.Use.{Use}
-use Rattle.alg_terms.specs.declared.limits.TheConstants.{MAX_POWER, MAX_LIMIT}
+use Rattle.alg_terms.specs.Limits.{MIN_POWER, MAX_POWER, MIN_LIMIT, MAX_LIMIT}
 use Rattle.alg_terms.specs.GoalRules.{IsUse, MayBeBy}
 use Rattle.alg_terms.specs.Kinds.{IsDomain, IsField}
 use Rattle.alg_terms.specs.Members.{kind_of, uses_of}
 use Rattle.alg_terms.specs.Valid.{names_of}
 use Rattle.alg_tokens.specs.Laws.{width}
+use Rattle.alg_tokens.specs.declared.code.Code.TheVariants as code
 use Rattle.alg_reader.specs.declared.raw.RawMethod.{RawMethod}
 use Rattle.alg_reader.specs.declared.raw.RawUse.{RawUse}
 use Rattle.alg_typing.specs.Faults.{fault_if}
@@ -46,7 +47,7 @@ no_ring Field h = refl
 option_clear : (low high value at : ℕ) → low ≤ value → value ≤ high →
     option_range low high (Some (record { value = pos value; at = at })) ≡ []
 option_clear low high value at least most =
-    no_cause (nat_lt value low || nat_lt high value) 16 at (grind (arith, nat_tests))
+    no_cause (nat_lt value low || nat_lt high value) code.Option at (grind (arith, nat_tests))
 
 -- raw uses that come back
 pub record AreUsesBack (g : File) (text : List ℕ) (uses : List Use) (raws : List RawUse) : Type 0 where
@@ -130,7 +131,7 @@ module _ (file g : File) (text : List ℕ) (distinct : AreDistinct (names_of g))
       record {
         back = refl;
         names = refl;
-        sorts = no_cause (is_no_field g text (Some e.sort)) 15 method_at (ap not field);
+        sorts = no_cause (is_no_field g text (Some e.sort)) code.NotField method_at (ap not field);
       }
   method_back e (ByNsatz uses power limit) method_at at may low range closed placed =
       let there = placed_left text (at + 5) (uses_pieces file uses) (option_pieces power limit) placed.1 in
@@ -142,8 +143,8 @@ module _ (file g : File) (text : List ℕ) (distinct : AreDistinct (names_of g))
       let clear = uses_clear e.sort uses (at + 5 + 7) closed in_range are each in
       let power_at = at + 5 + width (uses_pieces file uses) + 7 in
       let limit_at = power_at + length (decimal power) + 7 in
-      let powers = option_range 1 MAX_POWER (Some (record { value = pos power; at = power_at })) in
-      let limits = option_range 0 MAX_LIMIT (Some (record { value = pos limit; at = limit_at })) in
+      let powers = option_range MIN_POWER MAX_POWER (Some (record { value = pos power; at = power_at })) in
+      let limits = option_range MIN_LIMIT MAX_LIMIT (Some (record { value = pos limit; at = limit_at })) in
       let ring = is_ring (kind_of g e.sort) in
       let kind : kind_of file e.sort ≡ kind_of g e.sort = kind_same g file grows e.sort low in
       let domain = no_ring (kind_of g e.sort) (subst IsDomain kind may.domain) in
@@ -151,9 +152,9 @@ module _ (file g : File) (text : List ℕ) (distinct : AreDistinct (names_of g))
       record {
         back = ap (λ x. ByNsatz x power limit) back.back;
         names = back.names;
-        sorts = two_empty ((fault_if ring 14 method_at ++ sorted) ++ powers) limits
-            (two_empty (fault_if ring 14 method_at ++ sorted) powers
-            (two_empty (fault_if ring 14 method_at) sorted (no_cause ring 14 method_at domain) clear)
-            (option_clear 1 MAX_POWER power power_at may.power_low may.power_high))
-            (option_clear 0 MAX_LIMIT limit limit_at (omega arith) may.limit_high);
+        sorts = two_empty ((fault_if ring code.NotDomain method_at ++ sorted) ++ powers) limits
+            (two_empty (fault_if ring code.NotDomain method_at ++ sorted) powers
+            (two_empty (fault_if ring code.NotDomain method_at) sorted (no_cause ring code.NotDomain method_at domain) clear)
+            (option_clear MIN_POWER MAX_POWER power power_at may.power_low may.power_high))
+            (option_clear MIN_LIMIT MAX_LIMIT limit limit_at (omega arith) may.limit_high);
       }

@@ -11,6 +11,7 @@ use Rattle.alg_terms.specs.declared.file.Statement.{Statement}
 use Rattle.alg_terms.specs.Members.{hyp_at, no_hyp}
 use Rattle.alg_terms.specs.Order.{declared_by}
 use Rattle.alg_terms.specs.Valid.{IsValid, names_of}
+use Rattle.alg_tokens.specs.declared.code.Code.TheVariants as code
 use Rattle.alg_reader.specs.declared.raw.Span.{Span}
 use Rattle.alg_reader.specs.WellRead.{bytes_at}
 use Rattle.alg_typing.specs.declared.declaration.Declaration.TheVariants as declaration
@@ -47,9 +48,9 @@ module _ (g : File) (text : List ℕ) where
   pub new_taken : (before : List Name) (name : Span) (bytes : Name) → bytes_at text name ≡ bytes →
       IsNew bytes (names_of g) → IsNew bytes before → new_name g text before name ≡ []
   new_taken before name bytes same free apart =
-      ap (λ b. fault_if (is_some (declared_as g b) || list_any (bytes_eq b) before) 6 name.start) same
-      ∙ ap (λ o. fault_if (is_some o || list_any (bytes_eq bytes) before) 6 name.start) (declared_none g bytes free)
-      ∙ ap (λ b. fault_if b 6 name.start) (not_among bytes before apart)
+      ap (λ b. fault_if (is_some (declared_as g b) || list_any (bytes_eq b) before) code.Again name.start) same
+      ∙ ap (λ o. fault_if (is_some o || list_any (bytes_eq bytes) before) code.Again name.start) (declared_none g bytes free)
+      ∙ ap (λ b. fault_if b code.Again name.start) (not_among bytes before apart)
 
   pub news_taken : (before : List Name) (names : List Span) → AreFresh g before (map (bytes_at text) names) →
       new_names g text before names ≡ []

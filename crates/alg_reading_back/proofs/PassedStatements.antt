@@ -17,7 +17,7 @@ use Rattle.alg_tokens.specs.declared.token.Word.TheVariants as words
 use Rattle.alg_tokens.specs.declared.token.TokenKind.{TokenKind}
 use Rattle.alg_tokens.specs.declared.token.TokenKind.TheVariants as kinds
 use Rattle.alg_tokens.specs.Pieces.{Piece, Blank, Lexeme}
-use Rattle.alg_reader.specs.Tokens.{bar}
+use Rattle.alg_reader.specs.Tokens.{unread_today, stop_code}
 use Rattle.alg_printer.specs.Names.{sort_name, var_name}
 use Rattle.alg_printer.specs.Text.{IsStatementOf}
 use Rattle.alg_reading_back.specs.ReadingBack.{IsReadToday}
@@ -146,9 +146,9 @@ vars_passes file plain first count =
     )
 
 -- `by` stops nothing
-by_passes : (last : Option TokenKind) (depth : ℕ) → bar depth last (kinds.Word words.By) ≡ None
+by_passes : (last : Option TokenKind) (depth : ℕ) → stop_code unread_today depth last (kinds.Word words.By) ≡ None
 by_passes None depth = refl
-by_passes (Some (kinds.Word w)) depth = elim w as (λ w. bar depth (Some (kinds.Word w)) (kinds.Word words.By) ≡ None) [
+by_passes (Some (kinds.Word w)) depth = elim w as (λ w. stop_code unread_today depth (Some (kinds.Word w)) (kinds.Word words.By) ≡ None) [
   | words.Additive ↦ refl
   | _ ↦ refl
 ]

@@ -4,7 +4,7 @@ use Rattle.std.proofs.Common.{◌≡◌, ℕ, ℤ, ◌+◌, Bool, false, List, [
 use Rattle.std.specs.Prelude.{nat_lt}
 use Rattle.std.proofs.lemmas.Bool.Decides.{nat_tests}
 use Rattle.alg_terms.specs.declared.file.File.{File}
-use Rattle.alg_terms.specs.declared.limits.TheConstants.{MAX_EXPONENT}
+use Rattle.alg_terms.specs.Limits.{MAX_EXPONENT}
 use Rattle.alg_terms.specs.declared.term.Term.{Term}
 use Rattle.alg_terms.specs.declared.term.Term.TheVariants.{Var, Int, Neg, Add, Sub, Mul, Div, Pow, Hom}
 use Rattle.alg_terms.specs.Members.{source_of}
@@ -14,6 +14,7 @@ use Rattle.alg_terms.specs.Valid.{names_of}
 use Rattle.alg_tokens.specs.declared.token.Sign.TheVariants as signs
 use Rattle.alg_tokens.specs.declared.token.TokenKind.TheVariants as kinds
 use Rattle.alg_tokens.specs.Laws.{width}
+use Rattle.alg_tokens.specs.declared.code.Code.TheVariants as code
 use Rattle.alg_reader.specs.declared.raw.RawNode.{RawNode}
 use Rattle.alg_reader.specs.declared.raw.RawNode.TheVariants as raw
 use Rattle.alg_reader.specs.RawTerms.{fold_under}
@@ -68,7 +69,7 @@ module _ (file g : File) (text : List ℕ) (distinct : AreDistinct (names_of g))
       record {
         back = ap (λ x. Pow x n) part.back;
         clear = ap (λ x. x ++ (sorted g text may_divide (part_raw 5 l at)).faults (Some s) (to_fields g above))
-            (no_cause (nat_lt MAX_EXPONENT n) 12 place low) ∙ part.clear;
+            (no_cause (nat_lt MAX_EXPONENT n) code.Exponent place low) ∙ part.clear;
       }
 
   hom_clear : (f : ℕ) (t : Term) → Clear t → Clear (Hom f t)
@@ -93,7 +94,7 @@ module _ (file g : File) (text : List ℕ) (distinct : AreDistinct (names_of g))
       record {
         back = ap (λ k. Hom k (term_of g text (l.raw place))) number ∙ ap (Hom f) part.back;
         clear = subst P (sym number)
-            (ap (λ x. x ++ inner.faults source (to_fields g (f ∷ above))) (no_cause (differ inner.own source) 9 at fits)
+            (ap (λ x. x ++ inner.faults source (to_fields g (f ∷ above))) (no_cause (differ inner.own source) code.Sort at fits)
             ∙ part.clear);
       }
 

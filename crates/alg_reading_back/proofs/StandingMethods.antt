@@ -8,10 +8,9 @@ use Rattle.alg_terms.specs.declared.goals.Equation.{Equation}
 use Rattle.alg_terms.specs.declared.goals.Method.{Method}
 use Rattle.alg_terms.specs.declared.goals.Method.TheVariants.{ByRing, ByField, ByNsatz}
 use Rattle.alg_terms.specs.declared.goals.Use.{Use}
-use Rattle.alg_terms.specs.declared.limits.TheConstants.{MAX_POWER, MAX_LIMIT}
+use Rattle.alg_terms.specs.Limits.{MAX_POWER, MAX_LIMIT, MAX_LITERAL}
 use Rattle.alg_terms.specs.GoalRules.{IsUse, MayBeBy}
 use Rattle.alg_terms.specs.Names.{IsName}
-use Rattle.alg_tokens.specs.declared.token.TheConstants.{MAX}
 use Rattle.alg_tokens.specs.declared.token.Word.TheVariants as words
 use Rattle.alg_tokens.proofs.Neighbours.{spell, spell_append, AllStand, stand_append}
 use Rattle.alg_tokens.proofs.Standing.{BeginsStop}
@@ -73,7 +72,7 @@ stand_uses file sort (used ∷ uses) names all next stops = (
 -- ---- methods
 
 -- the power and the limit
-stand_options : (power limit : ℕ) → pos power ≤ℤ MAX → pos limit ≤ℤ MAX → StandsBeforeStop (option_pieces power limit)
+stand_options : (power limit : ℕ) → pos power ≤ℤ MAX_LITERAL → pos limit ≤ℤ MAX_LITERAL → StandsBeforeStop (option_pieces power limit)
 stand_options power limit power_small limit_small next stops =
     let last = numeral limit ∷ [] in
     let from_limit = space ∷ word words.Limit ∷ space ∷ last in
@@ -90,8 +89,8 @@ stand_method file e ByField names may next stops = ((refl, stops), tt)
 stand_method file e (ByNsatz uses power limit) names may next stops =
     let pieces = uses_pieces file uses in
     let options = option_pieces power limit in
-    let power_small : pos power ≤ℤ MAX = let low : power ≤ MAX_POWER = may.power_high in omega (arith, ints) in
-    let limit_small : pos limit ≤ℤ MAX = let low : limit ≤ MAX_LIMIT = may.limit_high in omega (arith, ints) in
+    let power_small : pos power ≤ℤ MAX_LITERAL = let low : power ≤ MAX_POWER = may.power_high in omega (arith, ints) in
+    let limit_small : pos limit ≤ℤ MAX_LITERAL = let low : limit ≤ MAX_LIMIT = may.limit_high in omega (arith, ints) in
     let behind : BeginsStop (spell options ++ next) = (32, _, refl, refl) in
     let begins : BeginsStop (spell (pieces ++ options) ++ next) =
     subst BeginsStop (sym (ap (λ bs. bs ++ next) (spell_append pieces options)

@@ -2,14 +2,13 @@
 use Rattle.std.proofs.Common.{◌≡◌, ◌≤◌, ◌<◌, ◌≤ℤ◌, ℕ, true, false, cond, nat_lt, List, [], ◌∷◌, ◌++◌, length, decimal, refl, ap, sym, ◌∙◌, subst, arith, append_assoc, append-nil, ℤ, pos, negsuc}
 use Rattle.std.proofs.lemmas.Int.{ints}
 use Rattle.alg_terms.specs.declared.file.File.{File}
-use Rattle.alg_terms.specs.declared.limits.TheConstants.{MAX_LITERAL, MAX_EXPONENT}
+use Rattle.alg_terms.specs.Limits.{MAX_LITERAL, MAX_EXPONENT}
 use Rattle.alg_terms.specs.declared.term.Term.{Term, more_of-Term, Var, Int, Neg', Add', Sub', Mul', Div', Pow', Hom'}
 use Rattle.alg_terms.specs.Names.{IsName}
 use Rattle.alg_terms.specs.Nodes.{fold_term, EachNode}
 use Rattle.alg_terms.specs.TermRules.{IsInRange, HasLiteral, HasExponent}
 use Rattle.alg_tokens.specs.declared.token.Sign.{Sign}
 use Rattle.alg_tokens.specs.declared.token.Sign.TheVariants as signs
-use Rattle.alg_tokens.specs.declared.token.TheConstants.{MAX}
 use Rattle.alg_tokens.specs.declared.token.Word.{Word}
 use Rattle.alg_tokens.specs.Pieces.{Piece, value_of}
 use Rattle.alg_tokens.specs.Spelling.{sign_spelling}
@@ -37,7 +36,7 @@ fits_name bytes is = record {
 }
 
 -- a number up to the greatest
-pub fits_numeral : (n : ℕ) → pos n ≤ℤ MAX → Fits (numeral n ∷ [])
+pub fits_numeral : (n : ℕ) → pos n ≤ℤ MAX_LITERAL → Fits (numeral n ∷ [])
 fits_numeral n small =
     let (is, value) = decimal_numeral n (omega (arith, ints)) in
     let same : pos n ≡ pos (value_of (decimal n)) = ap (λ v. pos v) (sym value) in

@@ -14,6 +14,7 @@ use Rattle.alg_terms.specs.Valid.{names_of}
 use Rattle.alg_tokens.specs.declared.token.Sign.TheVariants as signs
 use Rattle.alg_tokens.specs.declared.token.TokenKind.TheVariants as kinds
 use Rattle.alg_tokens.specs.declared.token.Refusal.{Refusal}
+use Rattle.alg_tokens.specs.declared.code.Code.TheVariants as code
 use Rattle.alg_reader.specs.declared.raw.RawUse.{RawUse}
 use Rattle.alg_typing.specs.Faults.{fault_if}
 use Rattle.alg_typing.specs.NameFaults.{used_name, use_names}
@@ -138,7 +139,7 @@ module _ (file g : File) (text : List ℕ) (distinct : AreDistinct (names_of g))
       record {
         along = ap (target_of g) number ∙ sym (target_same g file grows f homs.0) ∙ leads.0;
         clear = ap (λ x. x ++ path_sorts g text rest.path h)
-            (no_cause wrong 9 at (never_differ along _ (below.along ∙ source))) ∙ below.clear;
+            (no_cause wrong code.Sort at (never_differ along _ (below.along ∙ source))) ∙ below.clear;
       }
 
   -- a `<>` under a path is one of a field, in the front too
@@ -171,11 +172,11 @@ module _ (file g : File) (text : List ℕ) (distinct : AreDistinct (names_of g))
       let other : ℕ → Bool = λ hyp. not (sort_along g text raw.path hyp == s) in
       let bad : ℕ → Bool = λ hyp. is_bad_unequal g text raw.path hyp in
       let faults : ℕ → List Refusal =
-      λ hyp. path_sorts g text raw.path hyp ++ fault_if (other hyp) 9 first ++ fault_if (bad hyp) 15 first in
-      let no_other = no_cause (other used.hyp) 9 first (never_differ _ s path.along) in
-      let no_bad = no_cause (bad used.hyp) 15 first
+      λ hyp. path_sorts g text raw.path hyp ++ fault_if (other hyp) code.Sort first ++ fault_if (bad hyp) code.NotField first in
+      let no_other = no_cause (other used.hyp) code.Sort first (never_differ _ s path.along) in
+      let no_bad = no_cause (bad used.hyp) code.NotField first
       (unequal_clear used.path used.hyp at (field_there s used closed range is)) in
       ap faults number
-      ∙ two_empty (path_sorts g text raw.path used.hyp ++ fault_if (other used.hyp) 9 first)
-      (fault_if (bad used.hyp) 15 first)
-      (two_empty (path_sorts g text raw.path used.hyp) (fault_if (other used.hyp) 9 first) path.clear no_other) no_bad
+      ∙ two_empty (path_sorts g text raw.path used.hyp ++ fault_if (other used.hyp) code.Sort first)
+      (fault_if (bad used.hyp) code.NotField first)
+      (two_empty (path_sorts g text raw.path used.hyp) (fault_if (other used.hyp) code.Sort first) path.clear no_other) no_bad

@@ -7,7 +7,7 @@ use Rattle.std.proofs.lemmas.List.Elements.{recursion_from_All, All-from_recursi
 use Rattle.alg_terms.specs.declared.term.Atom.{Atom}
 use Rattle.alg_terms.specs.declared.term.Term.{Term}
 use Rattle.alg_terms.specs.declared.term.Term.TheVariants.{Var, Int, Neg, Add, Sub, Mul, Div, Pow, Hom}
-use Rattle.alg_terms.specs.declared.limits.TheConstants.{MAX_LITERAL}
+use Rattle.alg_terms.specs.Limits.{MAX_LITERAL}
 use Rattle.alg_terms.specs.Nodes.{EachNode}
 use Rattle.alg_terms.specs.TermRules.{HasLiteral, IsNoQuotient, HasNoQuotient}
 use Rattle.alg_terms.proofs.BuiltNodes.{EachNode-Neg, EachNode-Add, EachNode-Sub, EachNode-Mul, EachNode-Div, EachNode-Pow, EachNode-Hom}

@@ -1,7 +1,7 @@
 -- The terms that are tried, (k*x)^n*x + c, are terms of each file with a variable x.
 use Rattle.std.proofs.Common.{◌≡◌, ◌≤◌, ◌<◌, ℕ, ℤ, length, refl, sym, subst, rules}
 use Rattle.std.specs.Prelude.{pos, ◌≤ℤ◌}
-use Rattle.alg_terms.specs.declared.limits.TheConstants.{MAX_LITERAL, MAX_EXPONENT}
+use Rattle.alg_terms.specs.Limits.{MAX_LITERAL, MAX_EXPONENT}
 use Rattle.alg_terms.specs.declared.file.File.{File}
 use Rattle.alg_terms.specs.declared.term.Term.{Term}
 use Rattle.alg_terms.specs.GoalRules.{IsEquation, DividesNowhere}

@@ -2,7 +2,7 @@
 
 ghost use Rattle.std.specs.Prelude.{◌≡◌, ◌≤◌, ◌<◌, IfOk, length, pos, ◌≤ℤ◌};
 ghost use Rattle.alg_terms.specs.GoalRules.{IsEquation, DividesNowhere};
-ghost use Rattle.alg_terms.specs.declared.limits.TheConstants.{MAX_EXPONENT};
+ghost use Rattle.alg_terms.specs.Limits.{MAX_EXPONENT};
 ghost use Rattle.alg_reify.specs.Tried.{tried};
 
 use crate::laws::proved_is_right;

@@ -117,7 +117,7 @@ by_nsatz = record {
     domain = tt;
     divides_nowhere = search rules;
     each_use = All-from_recursion (IsUse small 1) (record { path = 0 ∷ []; hyp = 0 } ∷ []) (used, tt);
-    few_uses = lit< tt;
+    few_uses = lit≤ tt;
     power_low = lit≤ tt;
     power_high = lit≤ tt;
     limit_high = lit≤ tt;

@@ -1,6 +1,5 @@
 -- The rules of equations, hypotheses, uses and goals.
 use Rattle.std.specs.Prelude.{◌≡◌, ◌≢◌, ◌≤◌, ◌<◌, ℕ, true, List, [], length, All, Some}
-use Rattle.alg_terms.specs.declared.limits.TheConstants.{MAX_POWER, MAX_LIMIT, USES_END}
 use Rattle.alg_terms.specs.declared.file.File.{File}
 use Rattle.alg_terms.specs.declared.goals.Equation.{Equation}
 use Rattle.alg_terms.specs.declared.goals.Goal.{Goal}
@@ -9,6 +8,7 @@ use Rattle.alg_terms.specs.declared.goals.Method.{Method}
 use Rattle.alg_terms.specs.declared.goals.Method.TheVariants.{ByRing, ByField, ByNsatz}
 use Rattle.alg_terms.specs.declared.goals.Use.{Use}
 use Rattle.alg_terms.specs.Kinds.{IsDomain, IsField}
+use Rattle.alg_terms.specs.Limits.{MIN_POWER, MAX_POWER, MAX_LIMIT, MAX_USES}
 use Rattle.alg_terms.specs.Members.{kind_of, hyp_at}
 use Rattle.alg_terms.specs.Sorts.{own_sort, equation_sort, Agree, Leads, hyp_sort}
 use Rattle.alg_terms.specs.TermRules.{IsTerm, HasNoQuotient, HasFieldQuotients}
@@ -45,8 +45,8 @@ pub record IsNsatz (file : File) (e : Equation) (uses : List Use) (power limit :
   pub domain : IsDomain (kind_of file e.sort)
   pub divides_nowhere : DividesNowhere e
   pub each_use : All (IsUse file e.sort) uses
-  pub few_uses : length uses < USES_END
-  pub power_low : 1 ≤ power
+  pub few_uses : length uses ≤ MAX_USES
+  pub power_low : MIN_POWER ≤ power
   pub power_high : power ≤ MAX_POWER
   pub limit_high : limit ≤ MAX_LIMIT
 

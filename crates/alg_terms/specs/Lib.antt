@@ -1,3 +1,4 @@
+pub mod Limits
 pub mod AnswerRules
 pub mod GoalRules
 pub mod Kinds

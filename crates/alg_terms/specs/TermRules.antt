@@ -1,10 +1,10 @@
 -- The rules of terms: each has a name of its own, so that it can be cited alone.
 use Rattle.std.specs.Prelude.{◌≤◌, ◌<◌, ℕ, List, [], length, All, pos, ◌≤ℤ◌}
-use Rattle.alg_terms.specs.declared.limits.TheConstants.{MAX_LITERAL, MAX_EXPONENT, MAX_DEPTH}
 use Rattle.alg_terms.specs.declared.file.File.{File}
 use Rattle.alg_terms.specs.declared.term.Term.{Term}
 use Rattle.alg_terms.specs.declared.term.Term.TheOpen.{Term-F}
 use Rattle.alg_terms.specs.Kinds.{IsField}
+use Rattle.alg_terms.specs.Limits.{MAX_LITERAL, MAX_EXPONENT, MAX_DEPTH}
 use Rattle.alg_terms.specs.Members.{kind_of, source_of, target_of}
 use Rattle.alg_terms.specs.Nodes.{EachNode}
 use Rattle.alg_terms.specs.Sorts.{own_sort, Agree, MayStandAt, EachNodeAt}

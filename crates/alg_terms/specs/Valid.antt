@@ -1,11 +1,12 @@
 -- When a file is valid: each rule has a name of its own, so that it can be cited alone.
-use Rattle.std.specs.Prelude.{◌≡◌, ◌≢◌, ◌<◌, ◌^◌, ℕ, true, List, ◌++◌, map, length, All, AllPairs}
+use Rattle.std.specs.Prelude.{◌≡◌, ◌≢◌, ◌<◌, ℕ, true, List, ◌++◌, map, length, All, AllPairs}
 use Rattle.alg_terms.specs.declared.declarations.HomDecl.{HomDecl}
 use Rattle.alg_terms.specs.declared.declarations.Sort.{Sort}
 use Rattle.alg_terms.specs.declared.declarations.VarDecl.{VarDecl}
 use Rattle.alg_terms.specs.declared.file.File.{File}
 use Rattle.alg_terms.specs.GoalRules.{IsHyp, IsGoal}
 use Rattle.alg_terms.specs.Kinds.{IsDomain}
+use Rattle.alg_terms.specs.Limits.{MEMBERS_END}
 use Rattle.alg_terms.specs.Names.{IsName}
 use Rattle.alg_terms.specs.Order.{IsOrdered}
 
@@ -28,14 +29,14 @@ names_of file =
     map (λ sort. sort.name) file.sorts ++ map (λ hom. hom.name) file.homs ++ map (λ var. var.name) file.vars
     ++ map (λ hyp. hyp.name) file.hyps
 
--- each list has fewer than 2^32 members
+-- each list has so few members that each has a number
 pub record HasCounts (file : File) : Type 0 where
-  pub sorts : length file.sorts < 2 ^ 32
-  pub homs : length file.homs < 2 ^ 32
-  pub vars : length file.vars < 2 ^ 32
-  pub hyps : length file.hyps < 2 ^ 32
-  pub goals : length file.goals < 2 ^ 32
-  pub order : length file.order < 2 ^ 32
+  pub sorts : length file.sorts < MEMBERS_END
+  pub homs : length file.homs < MEMBERS_END
+  pub vars : length file.vars < MEMBERS_END
+  pub hyps : length file.hyps < MEMBERS_END
+  pub goals : length file.goals < MEMBERS_END
+  pub order : length file.order < MEMBERS_END
 
 -- a valid file
 pub record IsValid (file : File) : Type 0 where

@@ -1,3 +1,5 @@
+//! What a file declares: sorts, morphisms and variables.
+
 use crate::Name;
 
 /// Which laws hold of a sort: those of commutative rings, of integral domains, or of fields.

@@ -1,3 +1,5 @@
+//! Files: declarations and goals by their numbers, in an order.
+
 use crate::{Goal, HomDecl, Hyp, Seq, Sort, VarDecl};
 
 /// One statement of a file, by the numbers of what it declares.

@@ -1,3 +1,5 @@
+//! Equations, hypotheses and goals.
+
 use crate::{Name, Seq, Term};
 
 /// Two terms and the sort in which they are compared.

@@ -1,3 +1,5 @@
+//! Names as they are written.
+
 ghost use Rattle.std.specs.Prelude.{◌≡◌, IfOk};
 
 use crate::NoMemory;

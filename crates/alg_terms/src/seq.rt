@@ -1,3 +1,5 @@
+//! Lists that contracts see as lists.
+
 ghost use Rattle.std.specs.Prelude.{◌≡◌, ◌++◌, ◌∷◌, [], OnOk, OnErr};
 
 use crate::NoMemory;

@@ -1,3 +1,5 @@
+//! Terms, and whether two are the same, how deep one is, and copies.
+
 ghost use Rattle.std.specs.Prelude.{◌≡◌, ◌^◌, ◌<◌, ◌↔◌, IsTrue, IfOk};
 ghost use Rattle.alg_terms.specs.Term.{depth_of};
 

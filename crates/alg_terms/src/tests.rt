@@ -1,9 +1,12 @@
+//! Terms, names, atoms and lists, and one file that keeps all rules.
+
 ghost use Rattle.std.specs.Prelude.{◌≡◌, ◌+◌, ◌^◌, ◌<◌, IfOk};
 ghost use Rattle.alg_terms.specs.SmallFile.{small};
 ghost use Rattle.alg_terms.specs.Term.{depth_of};
 ghost use Rattle.alg_terms.specs.Valid.{IsValid};
 
 use super::*;
+use crate::laws::limits;
 use sqlite_items::Boxed;
 use std::alloc::Global;
 use std::test::Fail;
@@ -103,4 +106,5 @@ fn the_small_file_is_valid()
 #[test]
 fn all_rules_can_be_kept_together() {
     the_small_file_is_valid();
+    limits();
 }

@@ -2,10 +2,12 @@
 use Rattle.std.proofs.Common.{◌≡◌, ◌≤◌, ◌≤ℤ◌, ℕ, ◌-◌, List, [], ◌∷◌, ◌⊎◌, inl, inr, length, drop, map, refl, ap, sym, ◌∙◌, subst, arith, length-drop, Ok, Err}
 use Rattle.std.proofs.Math.ListN.{drop_of_length-le}
 use Rattle.std.proofs.lemmas.Int.{ints}
+use Rattle.alg_tokens.specs.declared.code.Code.TheVariants as code
 use Rattle.alg_tokens.specs.declared.token.TokenKind.{TokenKind}
 use Rattle.alg_tokens.specs.declared.token.TokenKind.TheVariants as kinds
 use Rattle.alg_tokens.specs.declared.token.Token.{Token}
-use Rattle.alg_tokens.specs.declared.token.TheConstants.{MAX}
+use Rattle.alg_terms.specs.Limits.{MAX_LITERAL}
+use Rattle.alg_tokens.specs.Codes.{code_number}
 use Rattle.alg_tokens.specs.Pieces.{Piece, Blank, Lexeme, BeginsWith, IsFirst, IsCut}
 use Rattle.alg_tokens.specs.Next.{AreBlanks, StandsIn, IsWithinMax, BeginsNoPiece, BeginsOverMax}
 use Rattle.alg_tokens.specs.Laws.{OneCutting, OneNext}
@@ -59,11 +61,11 @@ token_no_blank text token (inr (some, within, (bytes, first))) blank rest begins
 
 -- why a fault stands at its place
 abbrev IsFault : List ℕ → ℕ → Type 0
-IsFault text code = ((code ≡ 2) × BeginsNoPiece text) ⊎ ((code ≡ 3) × BeginsOverMax text)
+IsFault text n = ((n ≡ code_number code.Char) × BeginsNoPiece text) ⊎ ((n ≡ code_number code.Number) × BeginsOverMax text)
 
-fault_no_blank : (text : List ℕ) (code : ℕ) → IsFault text code → NoBlank text
-fault_no_blank text code (inl (_, (some, none))) bytes rest begins = none (Blank bytes) rest begins
-fault_no_blank text code (inr (_, (value, bytes, more, first, over))) blank rest begins = lexeme_no_blank
+fault_no_blank : (text : List ℕ) (n : ℕ) → IsFault text n → NoBlank text
+fault_no_blank text n (inl (_, (some, none))) bytes rest begins = none (Blank bytes) rest begins
+fault_no_blank text n (inr (_, (value, bytes, more, first, over))) blank rest begins = lexeme_no_blank
     (kinds.Number value) bytes blank text more rest first.begins begins
 
 same_place : (text : List ℕ) (m n : ℕ) → m ≤ length text → n ≤ length text → drop m text ≡ drop n text → m ≡ n
@@ -134,7 +136,7 @@ not_both text token code at start (inr (some, within, (bytes, first))) small (in
     let P : ℕ → Type 0 = λ n. IsFirst (Lexeme token.kind bytes) (drop n text) (drop token.stop text) in
     let (kind, rest) = one_lexeme token.kind (kinds.Number value) bytes other (drop at text)
     (drop token.stop text) more (subst P start first) second in
-    let low : value ≤ℤ MAX = subst IsWithinMax kind small in
+    let low : value ≤ℤ MAX_LITERAL = subst IsWithinMax kind small in
     omega (arith, ints)
 
 one_code : (text : List ℕ) (code other : ℕ) → IsFault text code → IsFault text other → code ≡ other

@@ -48,7 +48,7 @@ cut_standing (piece ∷ pieces) rest (stands, stand) =
     subst P (sym (append_assoc (bytes_of piece) (spell pieces) rest))
     (spell pieces ++ rest, stands_first piece (spell pieces ++ rest) stands, cut_standing pieces rest stand)
 
--- a numeral that stands is at most MAX
+-- a numeral that stands is at most the greatest literal
 within_max : (kind : TokenKind) (bytes next : List ℕ) → Stands (Lexeme kind bytes) next → IsWithinMax kind
 within_max kinds.Name bytes next stands = tt
 within_max (kinds.Word word) bytes next stands = tt

@@ -10,7 +10,7 @@ use Rattle.unicode_ident.proofs.IdentLemmas.{is_xid_continue-ascii}
 use Rattle.alg_terms.specs.Names.{starts_name, continues_name, IsSpelledAsName, is_reserved}
 use Rattle.alg_tokens.specs.declared.token.TokenKind.{TokenKind}
 use Rattle.alg_tokens.specs.declared.token.TokenKind.TheVariants as kinds
-use Rattle.alg_tokens.specs.declared.token.TheConstants.{MAX}
+use Rattle.alg_terms.specs.Limits.{MAX_LITERAL}
 use Rattle.alg_tokens.specs.declared.token.Sign.{Sign}
 use Rattle.alg_tokens.specs.declared.token.Sign.TheVariants as signs
 use Rattle.alg_tokens.specs.Spelling.{spelling, sign_spelling}
@@ -40,7 +40,7 @@ Stands (Blank bytes) next = (b : ℕ) × (bytes ≡ b ∷ []) × (is_blank b ≡
 Stands (Lexeme kinds.Name bytes) next = IsSpelledAsName bytes × (is_reserved bytes ≡ false) × BeginsStop next
 Stands (Lexeme (kinds.Word word) bytes) next = (bytes ≡ spelling word) × BeginsStop next
 Stands (Lexeme (kinds.Number value) bytes) next =
-    IsNumeral bytes × (value ≡ pos (value_of bytes)) × (value ≤ℤ MAX) × BeginsStop next
+    IsNumeral bytes × (value ≡ pos (value_of bytes)) × (value ≤ℤ MAX_LITERAL) × BeginsStop next
 Stands (Lexeme (kinds.Sign sign) bytes) next = (bytes ≡ sign_spelling sign) × GoesOnNoSign next
 Stands (Lexeme kinds.End bytes) next = ⊥
 

@@ -27,7 +27,7 @@ tokens_of at (Blank bytes ∷ pieces) = tokens_of (at + length bytes) pieces
 tokens_of at (Lexeme kind bytes ∷ pieces) = record { kind = kind; start = at; stop = at + length bytes }
     ∷ tokens_of (at + length bytes) pieces
 
--- no numeral is over MAX
+-- no numeral is over the greatest literal
 abbrev pub AllWithinMax : List Token → Type 0
 AllWithinMax [] = Unit {0}
 AllWithinMax (token ∷ tokens) = IsWithinMax token.kind × AllWithinMax tokens

@@ -1,3 +1,4 @@
+pub mod Codes
 pub mod Spelling
 pub mod Pieces
 pub mod Runs

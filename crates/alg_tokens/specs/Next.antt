@@ -4,7 +4,10 @@ use Rattle.alg_tokens.specs.declared.token.TokenKind.{TokenKind}
 use Rattle.alg_tokens.specs.declared.token.TokenKind.TheVariants as kinds
 use Rattle.alg_tokens.specs.declared.token.Token.{Token}
 use Rattle.alg_tokens.specs.declared.token.Refusal.{Refusal}
-use Rattle.alg_tokens.specs.declared.token.TheConstants.{MAX}
+use Rattle.alg_terms.specs.Limits.{MAX_LITERAL}
+use Rattle.alg_tokens.specs.declared.code.Code.{Code}
+use Rattle.alg_tokens.specs.declared.code.Code.TheVariants as code
+use Rattle.alg_tokens.specs.Codes.{code_number}
 use Rattle.alg_tokens.specs.Pieces.{Piece, Blank, Lexeme, BeginsWith, IsFirst, IsCut}
 
 -- rest is what follows some blanks and comments at the front of the text
@@ -22,31 +25,31 @@ StandsIn text token =
     ⊎ ((token.start < token.stop) × (token.stop ≤ length text)
     × ((bytes : List ℕ) × IsFirst (Lexeme token.kind bytes) (drop token.start text) (drop token.stop text)))
 
--- a numeral is at most MAX
+-- a numeral is at most the greatest literal
 abbrev pub IsWithinMax : TokenKind → Type 0
-IsWithinMax (kinds.Number value) = value ≤ℤ MAX
+IsWithinMax (kinds.Number value) = value ≤ℤ MAX_LITERAL
 IsWithinMax _ = Unit {0}
 
 -- there is text, and no piece begins it
 abbrev pub BeginsNoPiece : List ℕ → Type 0
 BeginsNoPiece text = (text ≢ []) × ((piece : Piece) (rest : List ℕ) → BeginsWith piece text rest → ⊥)
 
--- the text begins with a numeral over MAX
+-- the text begins with a numeral over the greatest literal
 abbrev pub BeginsOverMax : List ℕ → Type 0
 BeginsOverMax text =
     (value : ℤ) × (bytes : List ℕ) × (rest : List ℕ) × IsFirst (Lexeme (kinds.Number value) bytes) text rest ×
-    (MAX <ℤ value)
+    (MAX_LITERAL <ℤ value)
 
--- the token that begins a text without blanks at its front, with its length, or the code of the fault there
-abbrev pub IsFirstToken : List ℕ → Result (TokenKind × ℕ) ℕ → Type 0
+-- the token that begins a text without blanks at its front, with its length, or the fault there
+abbrev pub IsFirstToken : List ℕ → Result (TokenKind × ℕ) Code → Type 0
 IsFirstToken text (Ok (kind, len)) = IsWithinMax kind
     × (((kind ≡ kinds.End) × (text ≡ []) × (len ≡ 0))
     ⊎ ((0 < len) × (len ≤ length text) × IsFirst (Lexeme kind (take len text)) text (drop len text)))
-IsFirstToken text (Err code) = ((code ≡ 2) × BeginsNoPiece text) ⊎ ((code ≡ 3) × BeginsOverMax text)
+IsFirstToken text (Err fault) = ((fault ≡ code.Char) × BeginsNoPiece text) ⊎ ((fault ≡ code.Number) × BeginsOverMax text)
 
--- the first token after the blanks, code 2 where no token begins there, and code 3 where it is a numeral over MAX
+-- the first token after the blanks, or the fault there: that no token begins, or a numeral over the greatest literal
 abbrev pub IsNext : List ℕ → ℕ → Result Token Refusal → Type 0
 IsNext text at (Ok token) = AreBlanks text at token.start × StandsIn text token × IsWithinMax token.kind
 IsNext text at (Err fault) = AreBlanks text at fault.at
-    × (((fault.code ≡ 2) × BeginsNoPiece (drop fault.at text)) ⊎ ((fault.code ≡ 3) × BeginsOverMax
-    (drop fault.at text)))
+    × (((fault.code ≡ code_number code.Char) × BeginsNoPiece (drop fault.at text))
+    ⊎ ((fault.code ≡ code_number code.Number) × BeginsOverMax (drop fault.at text)))

@@ -7,20 +7,16 @@ ghost use Rattle.alg_tokens.specs.Pieces.{Spells};
 ghost use Rattle.alg_tokens.specs.Runs.{sign_of, BeginsNoBlank};
 ghost use Rattle.alg_tokens.specs.Next.{IsNext, IsFirstToken, IsWithinMax};
 
+use crate::code::Code;
 use crate::scan::{blank_end, digit_len, name_len, starts_with_name, value};
 use crate::token::{Refusal, Sign, Token, TokenKind};
 use crate::word::reserved;
 
-/// The code of a character that begins no token.
-const NO_TOKEN: u8 = 2;
-
-/// The code of a numeral over MAX.
-const OVER_MAX: u8 = 3;
-
 /// The first token at or after a byte; blanks and comments before it are passed over. At the end of
-/// the text it is `End`. Refused with code 2 where no token begins after the blanks, and with code 3
-/// where a numeral over MAX does, each at its first byte. The text may be cut at both ends of the token. Takes no memory; reads each byte of the
-/// blanks and of the token once, and a name that may be a reserved word once more.
+/// the text it is `End`. Refused with `Char` where no token begins after the blanks, and with `Number`
+/// where a numeral over the greatest literal does, each at its first byte. The text may be cut at both
+/// ends of the token. Takes no memory; reads each byte of the blanks and of the token once, and a name
+/// that may be a reserved word once more.
 pub fn next_token(text: &str, at: u32) -> Result<Token, Refusal>
     requires size { length text.now ≤ 16777216 }
     requires boundary { IsCharBoundary text.now at }
@@ -36,15 +32,12 @@ pub fn next_token(text: &str, at: u32) -> Result<Token, Refusal>
             start: start as u32,
             stop: (start + len) as u32,
         }),
-        Err(code) => Err(Refusal {
-            code,
-            at: start as u32,
-        }),
+        Err(code) => Err(code.at(start as u32)),
     }
 }
 
-/// The token that begins a text, with its length, or the code of the fault.
-fn first(text: &str) -> Result<(TokenKind, usize), u8>
+/// The token that begins a text, with its length, or the fault.
+fn first(text: &str) -> Result<(TokenKind, usize), Code>
     requires { BeginsNoBlank text.now }
     ensures token { IsFirstToken text.now result }
     ensures boundary { IfOk result (λ found. IsCharBoundary text.now found.1) }
@@ -57,7 +50,7 @@ fn first(text: &str) -> Result<(TokenKind, usize), u8>
     if digits > 0 {
         return match value(&bytes[..digits]) {
             Some(number) => Ok((TokenKind::Number(number), digits)),
-            None => Err(OVER_MAX),
+            None => Err(Code::Number),
         };
     }
     if starts_with_name(text) {
@@ -66,7 +59,7 @@ fn first(text: &str) -> Result<(TokenKind, usize), u8>
     }
     match sign_of(byte(bytes, 0), byte(bytes, 1)) {
         Some((sign, len)) => Ok((TokenKind::Sign(sign), len)),
-        None => Err(NO_TOKEN),
+        None => Err(Code::Char),
     }
 }
 

@@ -4,12 +4,13 @@ ghost use Rattle.std.specs.Prelude.{◌≡◌, ◌≤◌, ◌<◌, ◌<ℤ◌, l
 ghost use Rattle.std.specs.Char.{IsAsciiDigit, is_ascii_digit};
 ghost use Rattle.std.specs.List.{prefix_len, AllByRecursion};
 ghost use Rattle.std.specs.Str.{IsCharBoundary};
+ghost use Rattle.alg_terms.specs.Limits.{MAX_LITERAL};
 ghost use Rattle.alg_terms.specs.Names.{starts_name, continues_name};
 ghost use Rattle.alg_tokens.specs.Pieces.{is_blank, value_of};
 ghost use Rattle.alg_tokens.specs.Next.{FollowsBlanks};
 ghost use Rattle.alg_tokens.specs.Runs.{IsRun, BeginsChar, BeginsNoBlank};
 
-use crate::token::MAX;
+use alg_terms::GREATEST_LITERAL;
 
 /// The place of the first byte that is no part of a blank or a comment.
 pub fn blank_end(text: &str) -> usize
@@ -44,12 +45,12 @@ pub fn digit_len(bytes: &[u8]) -> usize
     bytes.iter().take_while(|b| b.is_ascii_digit()).count()
 }
 
-/// The value of digits, where it is at most MAX.
+/// The value of digits, where it is at most the greatest literal.
 pub fn value(digits: &[u8]) -> Option<i128>
     requires { AllByRecursion IsAsciiDigit digits.now }
-    ensures { MatchOption result (MAX <ℤ pos (value_of digits.now)) (λ n. n ≡ pos (value_of digits.now)) }
+    ensures { MatchOption result (MAX_LITERAL <ℤ pos (value_of digits.now)) (λ n. n ≡ pos (value_of digits.now)) }
 {
-    let max = MAX as u128;
+    let max = GREATEST_LITERAL as u128;
     let mut value = 0;
     for digit in digits {
         if value > max / 10 {

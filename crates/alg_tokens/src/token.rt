@@ -1,8 +1,5 @@
 //! What a text is cut into.
 
-/// The greatest numeral, 2^127 - 1.
-pub const MAX: i128 = i128::MAX;
-
 /// A word that can't be a name, one variant each.
 #[derive(Clone, Copy, PartialEq, Eq, Debug)]
 pub enum Word {
@@ -80,7 +77,7 @@ pub struct Token {
     pub stop: u32,
 }
 
-/// A fault of a text: its code, and the byte at which it stands.
+/// A fault of a text: its number, which `Code::number` gives, and the byte at which it stands.
 #[derive(Clone, Copy, PartialEq, Eq, Debug)]
 pub struct Refusal {
     pub code: u8,

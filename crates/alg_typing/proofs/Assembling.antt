@@ -1,10 +1,11 @@
 -- A valid file with one more statement is valid, where what the statement declares keeps the rules.
-use Rattle.std.proofs.Common.{◌≡◌, ◌<◌, ◌≤◌, ◌^◌, ℕ, ◌+◌, List, [], ◌∷◌, ◌++◌, length, sym, ap, ◌∙◌, subst}
+use Rattle.std.proofs.Common.{◌≡◌, ◌<◌, ℕ, ◌+◌, List, [], ◌∷◌, ◌++◌, length, sym, ap, ◌∙◌, subst, arith}
 use Rattle.std.specs.Prelude.{All}
 use Rattle.std.proofs.lemmas.List.Elements.{All-append, All-weaker}
 use Rattle.alg_terms.specs.declared.file.File.{File}
 use Rattle.alg_terms.specs.declared.file.Statement.{Statement}
 use Rattle.alg_terms.specs.GoalRules.{IsHyp, IsGoal}
+use Rattle.alg_terms.specs.Limits.{MEMBERS_END}
 use Rattle.alg_terms.specs.Order.{numbers_from, Members, declared_by, used_by, AreAmong, members_of, IsOneSorted}
 use Rattle.alg_terms.specs.Valid.{IsValid, HasCounts, IsSort, IsHom, IsVar}
 use Rattle.alg_typing.proofs.GrowingGoals.{hyp_same, goal_same}
@@ -21,15 +22,18 @@ numbers_of_further old new more = record {
   goals = numbers_from (length old.goals) (length more.goals);
 }
 
--- room for so many further members
-pub record HasRoomFor (old new : File) (more : Further old new) (n : ℕ) : Type 0 where
-  pub some : 1 ≤ n
-  pub sorts : (length more.sorts ≤ n) × (length old.sorts + n < 2 ^ 32)
-  pub homs : (length more.homs ≤ n) × (length old.homs + n < 2 ^ 32)
-  pub vars : (length more.vars ≤ n) × (length old.vars + n < 2 ^ 32)
-  pub hyps : (length more.hyps ≤ n) × (length old.hyps + n < 2 ^ 32)
-  pub goals : (length more.goals ≤ n) × (length old.goals + n < 2 ^ 32)
-  pub order : length old.order + n < 2 ^ 32
+-- room for the further members
+pub record HasRoomFor (old new : File) (more : Further old new) : Type 0 where
+  pub sorts : length old.sorts + length more.sorts < MEMBERS_END
+  pub homs : length old.homs + length more.homs < MEMBERS_END
+  pub vars : length old.vars + length more.vars < MEMBERS_END
+  pub hyps : length old.hyps + length more.hyps < MEMBERS_END
+  pub goals : length old.goals + length more.goals < MEMBERS_END
+  pub order : length old.order + 1 < MEMBERS_END
+
+-- a list that gets no further members has room
+pub stays : {X : Type 0} (xs : List X) → length xs < MEMBERS_END → length xs + 0 < MEMBERS_END
+stays xs few = omega arith
 
 -- what the one more statement declares keeps the rules
 pub record IsFit (old new : File) (more : Further old new) (s : Statement) : Type 0 where
@@ -45,20 +49,14 @@ pub record IsFit (old new : File) (more : Further old new) (s : Statement) : Typ
   pub among : AreAmong (used_by new s) (members_of old)
 
 module _ (old new : File) (more : Further old new) (s : Statement) where
-  counts : (n : ℕ) → HasRoomFor old new more n → new.order ≡ old.order ++ s ∷ [] → HasCounts new
-  counts n room order = record {
-    sorts = subst (λ xs. length xs < 2 ^ 32) (sym more.with_sorts)
-        (count_with old.sorts more.sorts n (2 ^ 32) room.sorts.0 room.sorts.1);
-    homs = subst (λ xs. length xs < 2 ^ 32) (sym more.with_homs)
-        (count_with old.homs more.homs n (2 ^ 32) room.homs.0 room.homs.1);
-    vars = subst (λ xs. length xs < 2 ^ 32) (sym more.with_vars)
-        (count_with old.vars more.vars n (2 ^ 32) room.vars.0 room.vars.1);
-    hyps = subst (λ xs. length xs < 2 ^ 32) (sym more.with_hyps)
-        (count_with old.hyps more.hyps n (2 ^ 32) room.hyps.0 room.hyps.1);
-    goals = subst (λ xs. length xs < 2 ^ 32) (sym more.with_goals)
-        (count_with old.goals more.goals n (2 ^ 32) room.goals.0 room.goals.1);
-    order = subst (λ xs. length xs < 2 ^ 32) (sym order)
-        (count_with old.order (s ∷ []) n (2 ^ 32) room.some room.order);
+  counts : HasRoomFor old new more → new.order ≡ old.order ++ s ∷ [] → HasCounts new
+  counts room order = record {
+    sorts = subst (λ xs. length xs < MEMBERS_END) (sym more.with_sorts) (count_with old.sorts more.sorts room.sorts);
+    homs = subst (λ xs. length xs < MEMBERS_END) (sym more.with_homs) (count_with old.homs more.homs room.homs);
+    vars = subst (λ xs. length xs < MEMBERS_END) (sym more.with_vars) (count_with old.vars more.vars room.vars);
+    hyps = subst (λ xs. length xs < MEMBERS_END) (sym more.with_hyps) (count_with old.hyps more.hyps room.hyps);
+    goals = subst (λ xs. length xs < MEMBERS_END) (sym more.with_goals) (count_with old.goals more.goals room.goals);
+    order = subst (λ xs. length xs < MEMBERS_END) (sym order) (count_with old.order (s ∷ []) room.order);
   }
 
   -- the numbers of one list's members with the further ones
@@ -75,11 +73,11 @@ module _ (old new : File) (more : Further old new) (s : Statement) where
       let goals = numbers old.goals new.goals more.goals more.with_goals in
       cc
 
-  pub assembled : (n : ℕ) → IsValid old → HasRoomFor old new more n → IsFit old new more s → IsValid new
-  assembled n valid room fit =
+  pub assembled : IsValid old → HasRoomFor old new more → IsFit old new more s → IsValid new
+  assembled valid room fit =
       let grows = further_grows old new more in
       record {
-        counts = counts n room fit.order;
+        counts = counts room fit.order;
         spelled = fit.named.spelled;
         distinct = fit.named.distinct;
         sorts = subst (All IsSort) (sym more.with_sorts) (All-append IsSort old.sorts more.sorts valid.sorts fit.sorts);

@@ -1,5 +1,5 @@
 -- A valid file with one more statement, which was read without fault, is valid.
-use Rattle.std.proofs.Common.{◌≡◌, ◌≤◌, ◌<◌, ◌+◌, ℕ, false, List, [], ◌∷◌, ◌++◌, length, map, None, Some, refl, sym, ◌∙◌, subst, arith, append-nil, append_assoc}
+use Rattle.std.proofs.Common.{◌≡◌, ◌≢◌, ◌≤◌, ◌<◌, ◌+◌, ℕ, false, List, [], ◌∷◌, ◌++◌, length, map, None, Some, refl, sym, ◌∙◌, subst, arith, append-nil, append_assoc}
 use Rattle.std.specs.Prelude.{All, flat_map}
 use Rattle.std.proofs.lemmas.List.{map-append}
 use Rattle.std.proofs.lemmas.List.Elements.{All-nil, All-cons, All-append}
@@ -10,7 +10,7 @@ use Rattle.alg_terms.specs.declared.goals.Goal.{Goal}
 use Rattle.alg_terms.specs.declared.goals.Hyp.{Hyp}
 use Rattle.alg_terms.specs.declared.goals.Method.{Method}
 use Rattle.alg_terms.specs.declared.goals.Method.TheVariants.{ByRing, ByField, ByNsatz}
-use Rattle.alg_terms.specs.declared.limits.TheConstants.{USES_END}
+use Rattle.alg_terms.specs.Limits.{MAX_USES}
 use Rattle.alg_terms.specs.GoalRules.{IsHyp, IsUse, MayBeBy, IsGoal}
 use Rattle.alg_terms.specs.Members.{no_hyp, no_goal, uses_of}
 use Rattle.alg_terms.specs.Names.{IsName}
@@ -21,16 +21,15 @@ use Rattle.alg_reader.specs.declared.raw.RawEquation.{RawEquation}
 use Rattle.alg_reader.specs.declared.raw.RawKind.{RawKind}
 use Rattle.alg_reader.specs.declared.raw.RawKind.TheVariants as raws
 use Rattle.alg_reader.specs.declared.raw.RawMethod.{RawMethod}
-use Rattle.alg_reader.specs.declared.raw.RawMethod.TheVariants as methods
 use Rattle.alg_reader.specs.declared.raw.Span.{Span}
 use Rattle.alg_reader.specs.declared.reading.Raw.{Raw}
-use Rattle.alg_reader.specs.WellRead.{bytes_at, IsWellKind, IsWellRead, members_in}
+use Rattle.alg_reader.specs.WellRead.{bytes_at, IsWellKind, IsWellRead, members_in, uses_in}
 use Rattle.alg_typing.specs.NameFaults.{name_faults, new_name, equation_names, method_names}
 use Rattle.alg_typing.specs.Reading.{first_fault}
 use Rattle.alg_typing.specs.Resolved.{extended, equation_of, method_of}
 use Rattle.alg_typing.specs.Room.{HasRoom}
 use Rattle.alg_typing.specs.SortFaults.{sort_faults, equation_sorts, method_sorts, may_divide_by, sort_of_sides}
-use Rattle.alg_typing.proofs.Assembling.{assembled}
+use Rattle.alg_typing.proofs.Assembling.{assembled, stays}
 use Rattle.alg_typing.proofs.ExtendsDeclarations.{none_among, extends_sort, extends_hom, extends_vars}
 use Rattle.alg_typing.proofs.Faultless.{no_name_faults, no_sort_faults}
 use Rattle.alg_typing.proofs.MoreMembers.{Further, last_at, named}
@@ -52,12 +51,6 @@ of_goal goal = record {
   hyps = map (λ used. used.hyp) (uses_of goal.method);
   goals = [];
 }
-
--- a goal has one member at least
-some_members : (e : RawEquation) (method : RawMethod) (method_at : ℕ) → 1 ≤ members_in (raws.Goal e method method_at)
-some_members e methods.Ring method_at = omega arith
-some_members e methods.Field method_at = omega arith
-some_members e (methods.Nsatz uses power limit) method_at = omega arith
 
 module _ (file : File) (text : List ℕ) (valid : IsValid file) where
   hyp_among : (hyp : Hyp) → IsHyp file hyp → AreAmong (of_hyp hyp) (members_of file)
@@ -94,14 +87,13 @@ module _ (file : File) (text : List ℕ) (valid : IsValid file) where
         equation = equation_kept file text false e well.1 used sorts;
         divides_nowhere = divides_nowhere file text e sorts;
       } in
-      assembled file new more (statement.Hyp (length file.hyps)) 1 valid
+      assembled file new more (statement.Hyp (length file.hyps)) valid
       (record {
-        some = omega arith;
-        sorts = (omega arith, room.sorts);
-        homs = (omega arith, room.homs);
-        vars = (omega arith, room.vars);
-        hyps = (omega arith, room.hyps);
-        goals = (omega arith, room.goals);
+        sorts = stays file.sorts valid.counts.sorts;
+        homs = stays file.homs valid.counts.homs;
+        vars = stays file.vars valid.counts.vars;
+        hyps = room.members;
+        goals = stays file.goals valid.counts.goals;
         order = room.order;
       })
       (record {
@@ -143,20 +135,13 @@ module _ (file : File) (text : List ℕ) (valid : IsValid file) where
             (hyps_of_uses file goal.equation.sort uses each);
       }
 
-  -- a goal's uses are fewer than its members
-  few_uses : (e : RawEquation) (method : RawMethod) (method_at : ℕ) → HasRoom file (raws.Goal e method method_at) →
-      (uses : _) (power limit : _) → method ≡ methods.Nsatz uses power limit → length uses < USES_END
-  few_uses e method method_at room uses power limit same =
-      let P : RawMethod → Type 0 = λ m. members_in (raws.Goal e m method_at) < USES_END in
-      let all : 1 + length uses < USES_END = subst P same room.uses in
-      omega arith
-
   extends_goal : (e : RawEquation) (method : RawMethod) (method_at : ℕ) →
       IsWellKind text (raws.Goal e method method_at) →
       name_faults file text (raws.Goal e method method_at) ≡ [] →
       sort_faults file text (raws.Goal e method method_at) ≡ [] →
-      HasRoom file (raws.Goal e method method_at) → IsValid (extended file text (raws.Goal e method method_at))
-  extends_goal e method method_at well names sorts room =
+      HasRoom file (raws.Goal e method method_at) → uses_in method ≤ MAX_USES →
+      IsValid (extended file text (raws.Goal e method method_at))
+  extends_goal e method method_at well names sorts room few =
       let equation = equation_of file text e in
       let goal : Goal = record { equation = equation; method = method_of file text method } in
       let new = extended file text (raws.Goal e method method_at) in
@@ -181,18 +166,15 @@ module _ (file : File) (text : List ℕ) (valid : IsValid file) where
       let at_sort = subst (λ s. method_sorts file text s method_at method ≡ []) sort own in
       let fits : IsGoal file goal = record {
         equation = rules;
-        method = method_kept file text e method method_at rules further sides at_sort
-            (few_uses e method method_at room);
+        method = method_kept file text e method method_at rules further sides at_sort few;
       } in
-      let one : 1 ≤ members_in (raws.Goal e method method_at) = some_members e method method_at in
-      assembled file new more (statement.Goal (length file.goals)) (members_in (raws.Goal e method method_at)) valid
+      assembled file new more (statement.Goal (length file.goals)) valid
       (record {
-        some = one;
-        sorts = (omega arith, room.sorts);
-        homs = (omega arith, room.homs);
-        vars = (omega arith, room.vars);
-        hyps = (omega arith, room.hyps);
-        goals = (one, room.goals);
+        sorts = stays file.sorts valid.counts.sorts;
+        homs = stays file.homs valid.counts.homs;
+        vars = stays file.vars valid.counts.vars;
+        hyps = stays file.hyps valid.counts.hyps;
+        goals = room.members;
         order = room.order;
       })
       (record {
@@ -210,20 +192,32 @@ module _ (file : File) (text : List ℕ) (valid : IsValid file) where
       })
 
   extends_kind : (kind : RawKind) → IsWellKind text kind → name_faults file text kind ≡ [] →
-      sort_faults file text kind ≡ [] →
-      HasRoom file kind → IsValid (extended file text kind)
-  extends_kind raws.End well names sorts room = valid
-  extends_kind (raws.Sort kind name char0) well names sorts room =
+      sort_faults file text kind ≡ [] → HasRoom file kind → (kind ≢ raws.End → members_in kind ≤ MAX_USES) →
+      IsValid (extended file text kind)
+  extends_kind raws.End well names sorts room few = valid
+  extends_kind (raws.Sort kind name char0) well names sorts room few =
       extends_sort file text valid kind name char0 well names room
-  extends_kind (raws.Hom name from to) well names sorts room = extends_hom file text valid name from to well names room
-  extends_kind (raws.Vars spans of) well names sorts room = extends_vars file text valid spans of well names room
-  extends_kind (raws.Hyp name e) well names sorts room = extends_hyp name e well names sorts room
-  extends_kind (raws.Goal e method method_at) well names sorts room =
-      extends_goal e method method_at well names sorts room
+  extends_kind (raws.Hom name from to) well names sorts room few =
+      extends_hom file text valid name from to well names room
+  extends_kind (raws.Vars spans of) well names sorts room few = extends_vars file text valid spans of well names room
+  extends_kind (raws.Hyp name e) well names sorts room few = extends_hyp name e well names sorts room
+  extends_kind (raws.Goal e method method_at) well names sorts room few =
+      let all : 1 + uses_in method ≤ MAX_USES = few (λ h. cc) in
+      extends_goal e method method_at well names sorts room (omega arith)
+
+-- each member and each use takes a byte of the text
+few_members : (text : List ℕ) (at : ℕ) (raw : Raw) → length text ≤ 16777216 → IsWellRead text at raw →
+    raw.kind ≢ raws.End → members_in raw.kind ≤ MAX_USES
+few_members text at raw size well goes =
+    let inside = well.stops.0 in
+    let long = well.long goes in
+    let all : members_in raw.kind ≤ 16777216 = omega arith in
+    grind (arith)
 
 -- a valid file with one more statement, which was read and has no fault, is valid
-pub extended_is_valid : (file : File) (text : List ℕ) (at : ℕ) (raw : Raw) → IsValid file → IsWellRead text at raw →
-    HasRoom file raw.kind → first_fault file text raw ≡ None → IsValid (extended file text raw.kind)
-extended_is_valid file text at raw valid well room h =
+pub extended_is_valid : (file : File) (text : List ℕ) (at : ℕ) (raw : Raw) → IsValid file → length text ≤ 16777216 →
+    IsWellRead text at raw → HasRoom file raw.kind → first_fault file text raw ≡ None →
+    IsValid (extended file text raw.kind)
+extended_is_valid file text at raw valid size well room h =
     extends_kind file text valid raw.kind well.kind (no_name_faults file text raw h)
-    (no_sort_faults file text raw h) room
+    (no_sort_faults file text raw h) room (few_members text at raw size well)

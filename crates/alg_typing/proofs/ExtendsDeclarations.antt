@@ -9,6 +9,7 @@ use Rattle.alg_terms.specs.declared.declarations.Sort.{Sort}
 use Rattle.alg_terms.specs.declared.file.File.{File}
 use Rattle.alg_terms.specs.declared.file.Statement.TheVariants as statement
 use Rattle.alg_terms.specs.GoalRules.{IsHyp, IsGoal}
+use Rattle.alg_terms.specs.Limits.{MEMBERS_END}
 use Rattle.alg_terms.specs.Members.{sort_of_var, source_of, target_of, no_hom, no_var}
 use Rattle.alg_terms.specs.Names.{IsName}
 use Rattle.alg_terms.specs.Order.{numbers_from, none}
@@ -20,7 +21,7 @@ use Rattle.alg_typing.specs.NameFaults.{name_faults, new_name, new_names, used_n
 use Rattle.alg_typing.specs.Names.{is_sort}
 use Rattle.alg_typing.specs.Resolved.{extended, number_at, vars_of}
 use Rattle.alg_typing.specs.Room.{HasRoom}
-use Rattle.alg_typing.proofs.Assembling.{assembled}
+use Rattle.alg_typing.proofs.Assembling.{assembled, stays}
 use Rattle.alg_typing.proofs.MoreMembers.{Further, last_at, named}
 use Rattle.alg_typing.proofs.NewlyNamed.{is_new, newly_named, spelled_names}
 use Rattle.alg_typing.proofs.NumbersInRange.{parts_empty, sort_number}
@@ -51,14 +52,13 @@ module _ (file : File) (text : List ℕ) (valid : IsValid file) where
         with_goals = sym (append-nil file.goals);
       } in
       let (free, _) = is_new file text [] name names in
-      assembled file new more (statement.Sort (length file.sorts)) 1 valid
+      assembled file new more (statement.Sort (length file.sorts)) valid
       (record {
-        some = omega arith;
-        sorts = (omega arith, room.sorts);
-        homs = (omega arith, room.homs);
-        vars = (omega arith, room.vars);
-        hyps = (omega arith, room.hyps);
-        goals = (omega arith, room.goals);
+        sorts = room.members;
+        homs = stays file.homs valid.counts.homs;
+        vars = stays file.vars valid.counts.vars;
+        hyps = stays file.hyps valid.counts.hyps;
+        goals = stays file.goals valid.counts.goals;
         order = room.order;
       })
       (record {
@@ -111,14 +111,13 @@ module _ (file : File) (text : List ℕ) (valid : IsValid file) where
       let ends : All low used =
       subst (λ h. All low (h.from ∷ h.to ∷ [])) (sym there)
       (All-cons low source (target ∷ []) low_source (All-cons low target [] low_target (All-nil low))) in
-      assembled file new more (statement.Hom (length file.homs)) 1 valid
+      assembled file new more (statement.Hom (length file.homs)) valid
       (record {
-        some = omega arith;
-        sorts = (omega arith, room.sorts);
-        homs = (omega arith, room.homs);
-        vars = (omega arith, room.vars);
-        hyps = (omega arith, room.hyps);
-        goals = (omega arith, room.goals);
+        sorts = stays file.sorts valid.counts.sorts;
+        homs = room.members;
+        vars = stays file.vars valid.counts.vars;
+        hyps = stays file.hyps valid.counts.hyps;
+        goals = stays file.goals valid.counts.goals;
         order = room.order;
       })
       (record {
@@ -207,14 +206,13 @@ module _ (file : File) (text : List ℕ) (valid : IsValid file) where
       let start : length file.vars + 0 ≡ length file.vars = omega arith in
       let first : sort_of_var new (length file.vars) ≡ sort =
       subst (λ n. sort_of_var new n ≡ sort) start (each 0 (omega (arith, well.0))) in
-      assembled file new more (statement.Vars (length file.vars) (length spans)) (length spans) valid
+      assembled file new more (statement.Vars (length file.vars) (length spans)) valid
       (record {
-        some = well.0;
-        sorts = (omega arith, room.sorts);
-        homs = (omega arith, room.homs);
-        vars = (omega arith, room.vars);
-        hyps = (omega arith, room.hyps);
-        goals = (omega arith, room.goals);
+        sorts = stays file.sorts valid.counts.sorts;
+        homs = stays file.homs valid.counts.homs;
+        vars = subst (λ n. length file.vars + n < MEMBERS_END) (sym long) room.members;
+        hyps = stays file.hyps valid.counts.hyps;
+        goals = stays file.goals valid.counts.goals;
         order = room.order;
       })
       (record {

@@ -3,8 +3,10 @@ use Rattle.std.proofs.Common.{◌≡◌, ℕ, List, [], Option, None, Some, refl
 use Rattle.std.specs.Option.{option_or, option_map}
 use Rattle.alg_terms.specs.declared.file.File.{File}
 use Rattle.alg_tokens.specs.declared.token.Refusal.{Refusal}
+use Rattle.alg_tokens.specs.declared.code.Code.TheVariants as code
+use Rattle.alg_tokens.specs.Codes.{fault_at}
 use Rattle.alg_reader.specs.declared.reading.Raw.{Raw}
-use Rattle.alg_typing.specs.Faults.{fault, first_of}
+use Rattle.alg_typing.specs.Faults.{first_of}
 use Rattle.alg_typing.specs.NameFaults.{name_faults}
 use Rattle.alg_typing.specs.Reading.{first_fault}
 use Rattle.alg_typing.specs.SortFaults.{sort_faults}
@@ -16,7 +18,7 @@ neither (Some f) y h = cc
 
 module _ (file : File) (text : List ℕ) (raw : Raw) (none : first_fault file text raw ≡ None) where
   later : option_or (first_of (name_faults file text raw.kind)) (first_of (sort_faults file text raw.kind)) ≡ None
-  later = (neither (option_map (fault 11) raw.too_deep) _ none).1
+  later = (neither (option_map (fault_at code.Depth) raw.too_deep) _ none).1
 
   pub no_name_faults : name_faults file text raw.kind ≡ []
   no_name_faults = no_faults _ (neither (first_of (name_faults file text raw.kind)) _ later).0

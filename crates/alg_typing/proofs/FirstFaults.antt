@@ -4,11 +4,13 @@ use Rattle.std.specs.Prelude.{IsErrAnd}
 use Rattle.std.specs.Option.{option_or, option_map}
 use Rattle.alg_terms.specs.declared.file.File.{File}
 use Rattle.alg_tokens.specs.declared.token.Refusal.{Refusal}
+use Rattle.alg_tokens.specs.declared.code.Code.TheVariants as code
+use Rattle.alg_tokens.specs.Codes.{fault_at}
 use Rattle.alg_reader.specs.declared.reading.FileEnd.{FileEnd}
 use Rattle.alg_reader.specs.declared.reading.FileEnd.TheVariants.{NoMemory}
 use Rattle.alg_reader.specs.declared.reading.Raw.{Raw}
-use Rattle.alg_typing.specs.Ends.{Tells}
-use Rattle.alg_typing.specs.Faults.{fault, first_of}
+use Rattle.alg_typing.specs.Ends.{RefusesWith}
+use Rattle.alg_typing.specs.Faults.{first_of}
 use Rattle.alg_typing.specs.NameFaults.{name_faults}
 use Rattle.alg_typing.specs.Reading.{first_fault}
 use Rattle.alg_typing.specs.SortFaults.{sort_faults}
@@ -18,7 +20,7 @@ pub error_tells_nothing : {A E : Type 0} (P : A → Type 0) (Q : E → Type 0) (
 error_tells_nothing P Q (Ok a) is = absurd is
 error_tells_nothing P Q (Err e) is = tt
 
-nothing_deep : (deep : Option ℕ) → ((at : ℕ) → deep ≢ Some at) → option_map (fault 11) deep ≡ None
+nothing_deep : (deep : Option ℕ) → ((at : ℕ) → deep ≢ Some at) → option_map (fault_at code.Depth) deep ≡ None
 nothing_deep None none = refl
 nothing_deep (Some at) none = absurd (none at refl)
 
@@ -41,8 +43,8 @@ module _ (file : File) (text : List ℕ) (raw : Raw) where
   abbrev sorts : Option Refusal
   sorts = first_of (sort_faults file text raw.kind)
 
-  pub first_is_deep : (at : ℕ) → raw.too_deep ≡ Some at → Some (fault 11 at) ≡ first_fault file text raw
-  first_is_deep at is = ap (λ (d : Option ℕ). option_or (option_map (fault 11) d) (option_or names sorts)) (sym is)
+  pub first_is_deep : (at : ℕ) → raw.too_deep ≡ Some at → Some (fault_at code.Depth at) ≡ first_fault file text raw
+  first_is_deep at is = ap (λ (d : Option ℕ). option_or (option_map (fault_at code.Depth) d) (option_or names sorts)) (sym is)
 
   pub first_is_name : (f : Refusal) → ((at : ℕ) → raw.too_deep ≢ Some at) →
       Some f ≡ first_of (name_faults file text raw.kind) → Some f ≡ first_fault file text raw
@@ -56,9 +58,9 @@ module _ (file : File) (text : List ℕ) (raw : Raw) where
 
 -- an error that is want of memory tells nothing of a fault
 pub memory_tells_nothing : {A : Type 0} (P : Refusal → Type 0) (r : Result A FileEnd) → IsErrAnd r (λ e. e ≡ NoMemory) →
-    IfErr r (λ end. Tells end P)
+    IfErr r (λ end. RefusesWith end P)
 memory_tells_nothing P (Ok a) is = absurd is
-memory_tells_nothing P (Err e) is = subst (λ (end : FileEnd). Tells end P) (sym is) tt
+memory_tells_nothing P (Err e) is = subst (λ (end : FileEnd). RefusesWith end P) (sym is) tt
 
 -- an error leaves the promises on success aside
 pub error_is_not_ok : {A E : Type 0} (P : Type 0) (Q : E → Type 0) (r : Result A E) → IsErrAnd r Q → OnOk r P

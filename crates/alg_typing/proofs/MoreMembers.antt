@@ -11,6 +11,7 @@ use Rattle.alg_terms.specs.declared.file.File.{File}
 use Rattle.alg_terms.specs.declared.goals.Goal.{Goal}
 use Rattle.alg_terms.specs.declared.goals.Hyp.{Hyp}
 use Rattle.alg_terms.specs.GoalRules.{IsHyp, IsGoal}
+use Rattle.alg_terms.specs.Limits.{MEMBERS_END}
 use Rattle.alg_terms.specs.Members.{no_sort, no_hom, no_var, no_hyp, no_goal}
 use Rattle.alg_terms.specs.Names.{IsName}
 use Rattle.alg_terms.specs.Order.{numbers_from}
@@ -71,9 +72,9 @@ numbers_with old more =
     ∙ ap (λ first. numbers_from 0 (length old) ++ numbers_from first (length more)) (zero-add (length old))
 
 -- how many members a list has with further ones
-pub count_with : {X : Type 0} (old more : List X) (n end : ℕ) → length more ≤ n → length old + n < end →
-    length (old ++ more) < end
-count_with old more n end few room = omega (arith, length-append old more)
+pub count_with : {X : Type 0} (old more : List X) → length old + length more < MEMBERS_END →
+    length (old ++ more) < MEMBERS_END
+count_with old more room = omega (arith, length-append old more)
 
 -- what each list keeps
 module _ (old new : File) (more : Further old new) (valid : IsValid old) where

@@ -4,12 +4,13 @@ use Rattle.std.specs.Prelude.{◌≤ℤ◌, is_none, unwrap_or}
 use Rattle.std.specs.Option.{option_or}
 use Rattle.std.proofs.lemmas.List.Elements.{All-nil, recursion_from_All}
 use Rattle.alg_terms.specs.declared.file.File.{File}
-use Rattle.alg_terms.specs.declared.limits.TheConstants.{MAX_LITERAL, MAX_DEPTH}
+use Rattle.alg_terms.specs.Limits.{MAX_LITERAL, MAX_DEPTH}
 use Rattle.alg_terms.specs.GoalRules.{IsEquation, DividesNowhere}
 use Rattle.alg_terms.specs.Kinds.{IsField}
 use Rattle.alg_terms.specs.Members.{kind_of, target_of}
 use Rattle.alg_terms.specs.Sorts.{equation_sort}
 use Rattle.alg_terms.specs.TermRules.{IsTerm, HasFieldQuotients}
+use Rattle.alg_tokens.specs.declared.code.Code.TheVariants as code
 use Rattle.alg_reader.specs.declared.raw.RawEquation.{RawEquation}
 use Rattle.alg_reader.specs.declared.raw.RawTerm.{RawTerm}
 use Rattle.alg_reader.specs.WellRead.{IsWellTerm, IsWellEquation}
@@ -71,7 +72,7 @@ module _ (file : File) (text : List ℕ) where
       let (first, second) = parts_empty (left.faults final true) (right.faults final true) sides in
       let same = sides_resolved b e in
       let there : is_none (equation_sort file (term_of file text e.left) (term_of file text e.right)) ≡ false =
-      subst (λ s. is_none s ≡ false) same (no_fault (is_none final) 10 e.relation some) in
+      subst (λ s. is_none s ≡ false) same (no_fault (is_none final) code.NoSort e.relation some) in
       let sort = some_sort _ there in
       record {
         left = subst (λ s. left.faults s true ≡ []) (same ∙ sort) first;
@@ -92,7 +93,7 @@ module _ (file : File) (text : List ℕ) where
       record {
         left = term_kept b e.left _ true well.left in_left clear.left;
         right = term_kept b e.right _ true well.right in_right clear.right;
-        sides = agree file text b e.left.head e.left.node e.right.head e.right.node (no_fault _ 9 e.relation differ);
+        sides = agree file text b e.left.head e.left.node e.right.head e.right.node (no_fault _ code.Sort e.relation differ);
         sort = clear.sort;
       }
 

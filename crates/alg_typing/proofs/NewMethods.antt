@@ -7,17 +7,19 @@ use Rattle.std.proofs.lemmas.Bool.Decides.{nat_tests}
 use Rattle.std.proofs.lemmas.List.{length-map}
 use Rattle.std.proofs.lemmas.List.Elements.{All-nil, All-cons}
 use Rattle.alg_terms.specs.declared.file.File.{File}
-use Rattle.alg_terms.specs.declared.limits.TheConstants.{MAX_POWER, MAX_LIMIT, USES_END}
+use Rattle.alg_terms.specs.Limits.{MIN_POWER, MAX_POWER, DEFAULT_POWER, MIN_LIMIT, MAX_LIMIT, DEFAULT_LIMIT, MAX_USES}
 use Rattle.alg_terms.specs.GoalRules.{IsEquation, IsUse, MayBeBy}
 use Rattle.alg_terms.specs.Kinds.{IsField}
 use Rattle.alg_terms.specs.Members.{kind_of, source_of, hyp_at}
 use Rattle.alg_terms.specs.Sorts.{Leads}
+use Rattle.alg_tokens.specs.declared.code.Code.TheVariants as code
 use Rattle.alg_reader.specs.declared.raw.RawEquation.{RawEquation}
 use Rattle.alg_reader.specs.declared.raw.RawMethod.{RawMethod}
 use Rattle.alg_reader.specs.declared.raw.RawMethod.TheVariants as methods
 use Rattle.alg_reader.specs.declared.raw.RawNumber.{RawNumber}
 use Rattle.alg_reader.specs.declared.raw.RawUse.{RawUse}
 use Rattle.alg_reader.specs.declared.raw.Span.{Span}
+use Rattle.alg_reader.specs.WellRead.{uses_in}
 use Rattle.alg_typing.specs.NameFaults.{used_name, use_names, method_names}
 use Rattle.alg_typing.specs.Names.{is_hom}
 use Rattle.alg_typing.specs.Resolved.{number_at, option_of, equation_of, use_of, method_of}
@@ -38,7 +40,7 @@ in_range default low high None least most h = (least, most)
 in_range default low high (Some n) least most h =
     let value = unsigned_abs n.value in
     let (over, under) = or_parts (nat_lt value low) (nat_lt high value)
-    (no_fault (nat_lt value low || nat_lt high value) 16 n.at h) in
+    (no_fault (nat_lt value low || nat_lt high value) code.Option n.at h) in
     (grind (arith, nat_tests), grind (arith, nat_tests))
 
 module _ (file : File) (text : List ℕ) where
@@ -60,7 +62,7 @@ module _ (file : File) (text : List ℕ) where
   path_leads (name ∷ names) hyp to h end =
       let (here, later) = parts_empty _ (path_sorts file text names hyp) h in
       let same = sort_along file text names hyp == source_of file (number_at file text name) in
-      (end, path_leads names hyp _ later (same_if _ _ (not_false same (no_fault (not same) 9 name.start here))))
+      (end, path_leads names hyp _ later (same_if _ _ (not_false same (no_fault (not same) code.Sort name.start here))))
 
   -- a `<>` under a path is one of a field
   unequal_in_field : (path : List Span) (hyp : ℕ) → is_bad_unequal file text path hyp ≡ false →
@@ -86,8 +88,8 @@ module _ (file : File) (text : List ℕ) where
         hyp = hyp_number file text used.hyp named;
         path = path_in_range used.path homs;
         sorts = path_leads used.path hyp s path
-            (same_if _ _ (not_false other (no_fault (not other) 9 (start_of used) sort)));
-        nonzero = unequal_in_field used.path hyp (no_fault bad 15 (start_of used) unequal);
+            (same_if _ _ (not_false other (no_fault (not other) code.Sort (start_of used) sort)));
+        nonzero = unequal_in_field used.path hyp (no_fault bad code.NotField (start_of used) unequal);
       }
 
   uses_kept : (s : ℕ) (uses : List RawUse) → flat_map (use_names file text) uses ≡ [] →
@@ -104,29 +106,29 @@ module _ (file : File) (text : List ℕ) where
   pub method_kept : (e : RawEquation) (method : RawMethod) (method_at : ℕ) → IsEquation file (equation_of file text e) →
       method_names file text method ≡ [] → equation_sorts file text (may_divide_by file text method) e ≡ [] →
       method_sorts file text (Some (equation_of file text e).sort) method_at method ≡ [] →
-      ((uses : _) (power limit : _) → method ≡ methods.Nsatz uses power limit → length uses < USES_END) →
+      uses_in method ≤ MAX_USES →
       MayBeBy file (equation_of file text e) (method_of file text method)
-  method_kept e methods.Ring method_at rules names sorts own room = divides_nowhere file text e sorts
-  method_kept e methods.Field method_at rules names sorts own room =
+  method_kept e methods.Ring method_at rules names sorts own few = divides_nowhere file text e sorts
+  method_kept e methods.Field method_at rules names sorts own few =
       let field = is_field (kind_of file (equation_of file text e).sort) in
       let (left, right) = divides_in_fields file text e sorts in
       record {
-        field = field_if _ (not_false field (no_fault (not field) 15 method_at own));
+        field = field_if _ (not_false field (no_fault (not field) code.NotField method_at own));
         left = left;
         right = right;
       }
-  method_kept e (methods.Nsatz uses power limit) method_at rules names sorts own room =
+  method_kept e (methods.Nsatz uses power limit) method_at rules names sorts own few =
       let s = (equation_of file text e).sort in
-      let (most, limits) = parts_empty _ (option_range 0 MAX_LIMIT limit) own in
-      let (front, powers) = parts_empty _ (option_range 1 MAX_POWER power) most in
+      let (most, limits) = parts_empty _ (option_range MIN_LIMIT MAX_LIMIT limit) own in
+      let (front, powers) = parts_empty _ (option_range MIN_POWER MAX_POWER power) most in
       let (ring, each) = parts_empty _ (flat_map (use_sorts file text (Some s)) uses) front in
-      let (low, high) = in_range 1 1 MAX_POWER power (omega arith) (omega arith) powers in
+      let (low, high) = in_range DEFAULT_POWER MIN_POWER MAX_POWER power (omega arith) (omega arith) powers in
       record {
-        domain = domain_if (kind_of file s) (no_fault (is_ring (kind_of file s)) 14 method_at ring);
+        domain = domain_if (kind_of file s) (no_fault (is_ring (kind_of file s)) code.NotDomain method_at ring);
         divides_nowhere = divides_nowhere file text e sorts;
         each_use = uses_kept s uses names each;
-        few_uses = subst (λ n. n < USES_END) (sym (length-map uses (use_of file text))) (room uses power limit refl);
+        few_uses = subst (λ n. n ≤ MAX_USES) (sym (length-map uses (use_of file text))) few;
         power_low = low;
         power_high = high;
-        limit_high = (in_range 10000 0 MAX_LIMIT limit (omega arith) (omega arith) limits).1;
+        limit_high = (in_range DEFAULT_LIMIT MIN_LIMIT MAX_LIMIT limit (omega arith) (omega arith) limits).1;
       }

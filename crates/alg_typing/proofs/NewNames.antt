@@ -8,6 +8,7 @@ use Rattle.std.proofs.lemmas.List.Folds.{list_any-append}
 use Rattle.std.proofs.lemmas.Slice.Eq.{bytes_eq-Decides}
 use Rattle.indexmap.specs.IndexSet.{insert_key}
 use Rattle.alg_terms.specs.declared.file.File.{File}
+use Rattle.alg_tokens.specs.declared.code.Code.TheVariants as code
 use Rattle.alg_reader.specs.declared.raw.Span.{Span}
 use Rattle.alg_reader.specs.WellRead.{bytes_at}
 use Rattle.alg_tokens.specs.declared.token.Refusal.{Refusal}
@@ -63,14 +64,14 @@ pub new_names-turn : (file : File) (text : List ℕ) (before : List (List ℕ)) 
     (first next fault : Option Refusal) (again : Bool) → i < length names →
     again ≡ (is_some (declared_as file (bytes_at text (get_or names i d)))
     || list_any (bytes_eq (bytes_at text (get_or names i d))) before) →
-    fault ≡ first_of (fault_if again 6 (get_or names i d).start) → next ≡ earlier_of first fault →
+    fault ≡ first_of (fault_if again code.Again (get_or names i d).start) → next ≡ earlier_of first fault →
     earlier_of next (first_of (new_names file text (bytes_at text (get_or names i d) ∷ before) (drop (i + 1) names)))
     ≡ earlier_of first (first_of (new_names file text before (drop i names)))
 new_names-turn file text before names i d first next fault again within is is_fault is_next =
     let name = get_or names i d in
     let rest = first_of (new_names file text (bytes_at text name ∷ before) (drop (i + 1) names)) in
     let here : fault ≡ first_of (new_name file text before name) =
-    is_fault ∙ ap (λ b. first_of (fault_if b 6 name.start)) is in
+    is_fault ∙ ap (λ b. first_of (fault_if b code.Again name.start)) is in
     ap (λ o. earlier_of o rest) (is_next ∙ ap (earlier_of first) here)
     ∙ earlier_of-assoc first (first_of (new_name file text before name)) rest
     ∙ ap (earlier_of first) (sym (first_of-append (new_name file text before name) _)

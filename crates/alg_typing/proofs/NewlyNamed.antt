@@ -7,6 +7,7 @@ use Rattle.std.proofs.lemmas.List.Elements.{All-nil, All-cons, All-head, All-tai
 use Rattle.std.proofs.lemmas.Slice.Eq.{bytes_eq-Decides}
 use Rattle.alg_terms.specs.declared.file.File.{File}
 use Rattle.alg_terms.specs.Names.{IsName}
+use Rattle.alg_tokens.specs.declared.code.Code.TheVariants as code
 use Rattle.alg_reader.specs.declared.raw.Span.{Span}
 use Rattle.alg_reader.specs.WellRead.{bytes_at, IsNameAt}
 use Rattle.alg_typing.specs.NameFaults.{new_name, new_names}
@@ -35,7 +36,7 @@ module _ (file : File) (text : List ℕ) where
   is_new before name h =
       let bytes = bytes_at text name in
       let (free, other) = or_parts (is_some (declared_as file bytes)) (list_any (bytes_eq bytes) before)
-      (no_fault (is_some (declared_as file bytes) || list_any (bytes_eq bytes) before) 6 name.start h) in
+      (no_fault (is_some (declared_as file bytes) || list_any (bytes_eq bytes) before) code.Again name.start h) in
       (none_if (declared_as file bytes) free, apart_if bytes before other)
 
   -- names that are declared one after the other

@@ -9,6 +9,7 @@ use Rattle.alg_reader.specs.declared.raw.Span.{Span}
 use Rattle.alg_reader.specs.WellRead.{bytes_at}
 use Rattle.alg_typing.specs.declared.declaration.Declaration.{Declaration}
 use Rattle.alg_typing.specs.declared.declaration.Declaration.TheVariants.{Sort, Hom, Var, Hyp}
+use Rattle.alg_tokens.specs.declared.code.Code.{Code}
 use Rattle.alg_typing.specs.Faults.{fault_if}
 use Rattle.alg_typing.specs.NameFaults.{misuse, used_name}
 use Rattle.alg_typing.specs.Names.{declared_as, is_sort, is_hom, is_var, is_hyp, number_of}
@@ -20,9 +21,9 @@ parts_empty [] ys h = (refl, h)
 parts_empty (x ∷ xs) ys h = absurd (cc)
 
 -- a fault is not there where it has no cause
-pub no_fault : (there : Bool) (code at : ℕ) → fault_if there code at ≡ [] → there ≡ false
-no_fault true code at h = absurd (cc)
-no_fault false code at h = refl
+pub no_fault : (there : Bool) (what : Code) (at : ℕ) → fault_if there what at ≡ [] → there ≡ false
+no_fault true what at h = absurd (cc)
+no_fault false what at h = refl
 
 -- where the first found of four kinds is one of a kind, it was found in that kind's list
 found_sort : (a b c d : Option ℕ) (n : ℕ) →

@@ -11,6 +11,7 @@ use Rattle.alg_terms.specs.Members.{kind_of, source_of, target_of}
 use Rattle.alg_terms.specs.Nodes.{EachNode}
 use Rattle.alg_terms.specs.Sorts.{EachNodeAt}
 use Rattle.alg_terms.specs.TermRules.{IsNoQuotient, DividesInFields}
+use Rattle.alg_tokens.specs.declared.code.Code.TheVariants as code
 use Rattle.alg_reader.specs.declared.raw.RawNode.{RawNode, more_of-RawTerm, Var, Int, Neg', Add', Sub', Mul', Div', Pow', Hom'}
 use Rattle.alg_reader.specs.RawTerms.{fold_under}
 use Rattle.alg_typing.specs.Resolved.{number_at}
@@ -56,7 +57,7 @@ module _ (file : File) (text : List ℕ) where
       (tt, no_quotient k t final in_fields left, no_quotient l u final in_fields right)
   no_quotient head (Div' _ (more_of-RawTerm k t _) _ (more_of-RawTerm l u _)) final in_fields h =
       let (here, rest) = parts_empty _ _ h in
-      let never = no_fault true 13 head here in
+      let never = no_fault true code.Division head here in
       absurd (cc)
   no_quotient head (Pow' _ (more_of-RawTerm k t _) n) final in_fields h =
       let (here, rest) = parts_empty _ _ h in (tt, no_quotient k t final in_fields rest)
@@ -67,7 +68,7 @@ module _ (file : File) (text : List ℕ) where
   may_stand : (head s : ℕ) (b : Bool) → quotient file text true head (Some s) b ≡ [] →
       IsField (kind_of file s) × (b ≡ true)
   may_stand head s b h =
-      let none = no_fault ((false || not (is_field (kind_of file s))) || not b) 13 head h in
+      let none = no_fault ((false || not (is_field (kind_of file s))) || not b) code.Division head h in
       let (some, below) = or_parts (false || not (is_field (kind_of file s))) (not b) none in
       (field_if (kind_of file s) (not_false (is_field (kind_of file s)) some), not_false b below)
 

@@ -8,7 +8,7 @@ use Rattle.alg_reader.specs.declared.raw.Span.{Span}
 use Rattle.alg_reader.specs.RawTerms.{Node, fold_raw, fold_under, of_parts, names_of_node, exponents_of_node}
 use Rattle.alg_reader.specs.WellRead.{IsNameAt}
 use Rattle.std.specs.Int.RustNames.{unsigned_abs}
-use Rattle.alg_terms.specs.declared.limits.TheConstants.{MAX_EXPONENT}
+use Rattle.alg_terms.specs.Limits.{MAX_EXPONENT}
 use Rattle.alg_typing.specs.TermsOf.{IsTermOf, IsSmallTermOf, IsExponent}
 use Rattle.alg_typing.proofs.Ordering.{all_left as first_all, all_right as last_all}
 use Rattle.alg_typing.proofs.RawBuilt.{fold_under-Neg, fold_under-Add, fold_under-Sub, fold_under-Mul, fold_under-Div, fold_under-Pow, fold_under-Hom}

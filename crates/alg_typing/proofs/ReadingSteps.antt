@@ -1,12 +1,16 @@
 -- What one more statement does to the file so far, and to what the rest of the text decides.
-use Rattle.std.proofs.Common.{◌≡◌, ◌≢◌, ◌≤◌, ◌<◌, ◌+◌, ◌-◌, ◌^◌, Fits, w32, inl, inr, ℕ, List, [], ◌∷◌, ◌++◌, length, length-append, None, Some, Result, Ok, Err, IfOk, IfErr, All, IsErrAnd, le_refl, refl, sym, ap, subst, arith}
+use Rattle.std.proofs.Common.{◌≡◌, ◌≢◌, ◌≤◌, ◌<◌, ◌+◌, ◌-◌, ◌^◌, Fits, w32, inl, inr, ℕ, false, List, [], ◌∷◌, ◌++◌, length, length-append, None, Some, Result, Ok, Err, IfOk, IfErr, All, IsErrAnd, le_refl, refl, sym, ap, subst, arith}
 use Rattle.std.specs.Str.{IsUtf8}
 use Rattle.std.proofs.lemmas.List.{length-map}
 use Rattle.std.proofs.lemmas.List.Elements.{All-append, All-cons, All-nil}
 use Rattle.alg_terms.specs.declared.file.File.{File}
-use Rattle.alg_terms.specs.declared.limits.TheConstants.{USES_END}
+use Rattle.alg_terms.specs.Limits.{MEMBERS_END}
 use Rattle.alg_terms.specs.Valid.{IsValid}
+use Rattle.alg_terms.specs.declared.goals.Method.TheVariants.{ByRing}
 use Rattle.alg_tokens.specs.declared.token.Refusal.{Refusal}
+use Rattle.alg_tokens.specs.declared.token.TokenKind.TheVariants as kinds
+use Rattle.alg_tokens.specs.declared.token.Word.TheVariants as words
+use Rattle.alg_reader.specs.declared.place.Place.TheVariants.{Plain}
 use Rattle.alg_reader.specs.declared.raw.RawEquation.{RawEquation}
 use Rattle.alg_reader.specs.declared.raw.RawKind.{RawKind}
 use Rattle.alg_reader.specs.declared.raw.RawKind.TheVariants as raws
@@ -16,11 +20,12 @@ use Rattle.alg_reader.specs.declared.reading.FileEnd.{FileEnd}
 use Rattle.alg_reader.specs.declared.reading.FileEnd.TheVariants.{Refused, NoMemory}
 use Rattle.alg_reader.specs.declared.reading.Raw.{Raw}
 use Rattle.alg_reader.specs.Statements.{IsRead}
-use Rattle.alg_reader.specs.WellRead.{IsWellRead, IsWellKind, members_in}
-use Rattle.alg_typing.specs.Ends.{IsByRing, Tells}
-use Rattle.alg_typing.specs.Reading.{first_fault, GoesOnWith, Reads, IsReadingOf, no_statements}
+use Rattle.alg_reader.specs.Tokens.{unread_today}
+use Rattle.alg_reader.specs.WellRead.{IsWellRead, IsWellKind, IsReadable, members_in, word_of}
+use Rattle.alg_typing.specs.Ends.{IsByRing, RefusesWith}
+use Rattle.alg_typing.specs.Reading.{first_fault, GoesOnWith, ReadsFile, IsReadingOf, no_statements}
 use Rattle.alg_typing.specs.Resolved.{extended, method_of}
-use Rattle.alg_typing.specs.Room.{HasRoom}
+use Rattle.alg_typing.specs.Room.{HasRoom, HasRoomIn}
 
 -- each list of a file has at most so many members
 pub record HasAtMost (file : File) (n : ℕ) : Type 0 where
@@ -60,9 +65,7 @@ at_least_one text (raws.Sort kind name char0) well other = grind (arith)
 at_least_one text (raws.Hom name from to) well other = grind (arith)
 at_least_one text (raws.Vars names sort) well other = well.0
 at_least_one text (raws.Hyp name e) well other = grind (arith)
-at_least_one text (raws.Goal e methods.Ring place) well other = grind (arith)
-at_least_one text (raws.Goal e methods.Field place) well other = grind (arith)
-at_least_one text (raws.Goal e (methods.Nsatz uses power limit) place) well other = grind (arith)
+at_least_one text (raws.Goal e method place) well other = grind (arith)
 
 module _ (file : File) (text : List ℕ) (at start stop : ℕ) (few : HasAtMost file at) (starts : at ≤ start) where
   same : start + 1 ≤ stop → HasAtMost file stop
@@ -130,36 +133,42 @@ module _ (file : File) (text : List ℕ) (at start stop : ℕ) (few : HasAtMost 
       }
 
 fits : (n at start stop m size : ℕ) → n ≤ at → at ≤ start → start + m ≤ stop → stop ≤ size → size ≤ 16777216 →
-    n + m < 2 ^ 32
+    n + m < MEMBERS_END
 fits n at start stop m size most starts long inside least =
     let all : n + m ≤ 16777216 = omega arith in grind (arith)
 
-few_uses : (start stop m size : ℕ) → start + m ≤ stop → stop ≤ size → size ≤ 16777216 → m < USES_END
-few_uses start stop m size long inside least = let all : m ≤ 16777216 = omega arith in grind (arith)
+-- the list to which the statement adds has room
+fits_in : (file : File) (kind : RawKind) (at start stop size : ℕ) → HasAtMost file at → at ≤ start →
+    start + members_in kind ≤ stop → start + 1 ≤ stop → stop ≤ size → size ≤ 16777216 → HasRoomIn file kind
+fits_in file raws.End at start stop size few starts long one inside least = tt
+fits_in file (raws.Sort kind name char0) at start stop size few starts long one inside least =
+    fits _ at start stop 1 size few.sorts starts one inside least
+fits_in file (raws.Hom name from to) at start stop size few starts long one inside least =
+    fits _ at start stop 1 size few.homs starts one inside least
+fits_in file (raws.Vars names sort) at start stop size few starts long one inside least =
+    fits _ at start stop (length names) size few.vars starts long inside least
+fits_in file (raws.Hyp name e) at start stop size few starts long one inside least =
+    fits _ at start stop 1 size few.hyps starts one inside least
+fits_in file (raws.Goal e method place) at start stop size few starts long one inside least =
+    fits _ at start stop 1 size few.goals starts one inside least
 
 module _ (file : File) (text : List ℕ) (at : ℕ) (raw : Raw) (few : HasAtMost file at) (well : IsWellRead text at raw)
     (goes : raw.kind ≢ raws.End) (size : length text ≤ 16777216) where
-  -- the file has room for the statement
-  pub has_room : HasRoom file raw.kind
-  has_room =
-      let m = members_in raw.kind in
-      let inside = well.stops.0 in
-      let long = well.long goes in
-      record {
-        sorts = fits _ at raw.start raw.stop m (length text) few.sorts well.starts long inside size;
-        homs = fits _ at raw.start raw.stop m (length text) few.homs well.starts long inside size;
-        vars = fits _ at raw.start raw.stop m (length text) few.vars well.starts long inside size;
-        hyps = fits _ at raw.start raw.stop m (length text) few.hyps well.starts long inside size;
-        goals = fits _ at raw.start raw.stop m (length text) few.goals well.starts long inside size;
-        order = fits _ at raw.start raw.stop m (length text) few.order well.starts long inside size;
-        uses = few_uses raw.start raw.stop m (length text) long inside size;
-      }
-
   longer : raw.start + 1 ≤ raw.stop
   longer =
       let least = at_least_one text raw.kind well.kind goes in
       let long = well.long goes in
       omega arith
+
+  -- the file has room for the statement
+  pub has_room : HasRoom file raw.kind
+  has_room =
+      let inside = well.stops.0 in
+      let long = well.long goes in
+      record {
+        members = fits_in file raw.kind at raw.start raw.stop (length text) few well.starts long longer inside size;
+        order = fits _ at raw.start raw.stop 1 (length text) few.order well.starts longer inside size;
+      }
 
   -- it has as many members as bytes were read, at most
   pub still_few : HasAtMost (extended file text raw.kind) raw.stop
@@ -169,47 +178,49 @@ module _ (file : File) (text : List ℕ) (at : ℕ) (raw : Raw) (few : HasAtMost
   pub goes_on : at < raw.stop
   goes_on = let l = longer in let s = well.starts in omega arith
 
-still_ring : (file : File) (text : List ℕ) (kind : RawKind) → All IsByRing file.goals →
-    ((e : RawEquation) (method : RawMethod) (place : ℕ) → kind ≡ raws.Goal e method place → method ≡ methods.Ring) →
-    All IsByRing (extended file text kind).goals
-still_ring file text raws.End all ring = all
-still_ring file text (raws.Sort kind name char0) all ring = all
-still_ring file text (raws.Hom name from to) all ring = all
-still_ring file text (raws.Vars names sort) all ring = all
-still_ring file text (raws.Hyp name e) all ring = all
-still_ring file text (raws.Goal e method place) all ring =
-    All-append IsByRing file.goals _ all
-    (All-cons IsByRing _ [] (ap (method_of file text) (ring e method place refl)) (All-nil IsByRing))
+-- a method whose word can be read today is ring
+is_ring : (file : File) (text : List ℕ) (method : RawMethod) →
+    unread_today (Some (kinds.Word words.By)) (word_of method) ≡ false → method_of file text method ≡ ByRing
+is_ring file text methods.Ring read = refl
+is_ring file text methods.Field read = absurd (cc)
+is_ring file text (methods.Nsatz uses power limit) read = absurd (cc)
 
--- the goals of the file are all by ring, with one more statement too
-pub by_ring_still : (file : File) (text : List ℕ) (at : ℕ) (raw : Raw) → All IsByRing file.goals →
-    IsWellRead text at raw → All IsByRing (extended file text raw.kind).goals
-by_ring_still file text at raw all well = still_ring file text raw.kind all well.by_ring
+-- with one more statement that can be read today all goals are by ring
+pub still_by_ring : (file : File) (text : List ℕ) (kind : RawKind) → All IsByRing file.goals →
+    IsReadable unread_today kind → All IsByRing (extended file text kind).goals
+still_by_ring file text raws.End all read = all
+still_by_ring file text (raws.Sort kind name char0) all read = all
+still_by_ring file text (raws.Hom name from to) all read = all
+still_by_ring file text (raws.Vars names sort) all read = all
+still_by_ring file text (raws.Hyp name e) all read = all
+still_by_ring file text (raws.Goal e method place) all read =
+    All-append IsByRing file.goals _ all
+    (All-cons IsByRing _ [] (is_ring file text method read) (All-nil IsByRing))
 
 module _ (text : List ℕ) (file : File) where
   -- what the rest of the text is read to be decides what all of it is
   abbrev pub Decides : ℕ → File → Type 0
-  Decides at now = (outcome : Result File Refusal) → Reads text at now outcome → Reads text 0 file outcome
+  Decides at now = (outcome : Result File Refusal) → ReadsFile unread_today text at now outcome → ReadsFile unread_today text 0 file outcome
 
-  pub decides_still : (at : ℕ) (now then : File) (raw : Raw) → Decides at now → IsRead text at (Ok raw) →
+  pub decides_still : (at : ℕ) (now then : File) (raw : Raw) → Decides at now → IsRead unread_today Plain text at (Ok raw) →
       raw.kind ≢ raws.End → first_fault now text raw ≡ None → then ≡ extended now text raw.kind → Decides raw.stop then
   decides_still at now then raw decides read goes none is outcome (raws, on) =
       decides outcome
-      (raw ∷ raws, (read, goes, none, subst (λ (f : File). GoesOnWith text raw.stop f raws outcome) is on))
+      (raw ∷ raws, (read, goes, none, subst (λ (f : File). GoesOnWith unread_today text raw.stop f raws outcome) is on))
 
-  pub ends_here : (at : ℕ) (now : File) (raw : Raw) → Decides at now → IsRead text at (Ok raw) → raw.kind ≡ raws.End →
-      Reads text 0 file (Ok now)
+  pub ends_here : (at : ℕ) (now : File) (raw : Raw) → Decides at now → IsRead unread_today Plain text at (Ok raw) → raw.kind ≡ raws.End →
+      ReadsFile unread_today text 0 file (Ok now)
   ends_here at now raw decides read ends = decides (Ok now) ([], (raw, read, ends, refl))
 
   -- what can't be read is told, want of memory aside
-  pub told_reading : (at : ℕ) (now : File) (e : FileEnd) → Decides at now → IsRead text at (Err e) →
-      Tells e (λ fault. Reads text 0 file (Err fault))
+  pub told_reading : (at : ℕ) (now : File) (e : FileEnd) → Decides at now → IsRead unread_today Plain text at (Err e) →
+      RefusesWith e (λ fault. ReadsFile unread_today text 0 file (Err fault))
   told_reading at now NoMemory decides read = tt
   told_reading at now (Refused fault) decides read = decides (Err fault) ([], inl read)
 
-  pub told_fault : (at : ℕ) (now : File) (raw : Raw) (e : FileEnd) → Decides at now → IsRead text at (Ok raw) →
-      raw.kind ≢ raws.End → Tells e (λ fault. first_fault now text raw ≡ Some fault) →
-      Tells e (λ fault. Reads text 0 file (Err fault))
+  pub told_fault : (at : ℕ) (now : File) (raw : Raw) (e : FileEnd) → Decides at now → IsRead unread_today Plain text at (Ok raw) →
+      raw.kind ≢ raws.End → RefusesWith e (λ fault. first_fault now text raw ≡ Some fault) →
+      RefusesWith e (λ fault. ReadsFile unread_today text 0 file (Err fault))
   told_fault at now raw NoMemory decides read goes is = tt
   told_fault at now raw (Refused fault) decides read goes is = decides (Err fault) ([], inr (raw, read, goes, is))
 
@@ -223,24 +234,24 @@ small_place n size less most = grind (arith)
 
 -- an error that is passed on tells what it told
 pub passed_on : {A : Type 0} (P : Refusal → Type 0) (r : Result A FileEnd) (e : FileEnd) → IsErrAnd r (λ x. x ≡ e) →
-    Tells e P → IfErr r (λ end. Tells end P)
+    RefusesWith e P → IfErr r (λ end. RefusesWith end P)
 passed_on P (Ok a) e is told = absurd is
-passed_on P (Err x) e is told = subst (λ (end : FileEnd). Tells end P) (sym is) told
+passed_on P (Err x) e is told = subst (λ (end : FileEnd). RefusesWith end P) (sym is) told
 
 module _ (bytes text : List ℕ) (is : text ≡ bytes) (utf8 : IsUtf8 bytes) where
-  is_reading : (outcome : Result File Refusal) → Reads text 0 no_statements outcome → IsReadingOf bytes outcome
-  is_reading outcome reads = inl (utf8, subst (λ (t : List ℕ). Reads t 0 no_statements outcome) is reads)
+  is_reading : (outcome : Result File Refusal) → ReadsFile unread_today text 0 no_statements outcome → IsReadingOf bytes outcome
+  is_reading outcome reads = inl (utf8, subst (λ (t : List ℕ). ReadsFile unread_today t 0 no_statements outcome) is reads)
 
   -- the file of a text is that of its bytes
-  pub read_all : (r : Result File FileEnd) → IfOk r (λ file. Reads text 0 no_statements (Ok file) × IsValid file) →
+  pub read_all : (r : Result File FileEnd) → IfOk r (λ file. ReadsFile unread_today text 0 no_statements (Ok file) × IsValid file) →
       IfOk r (λ file. IsReadingOf bytes (Ok file) × IsValid file)
   read_all (Ok file) (reads, valid) = (is_reading (Ok file) reads, valid)
   read_all (Err e) told = tt
 
   -- the fault of a text is that of its bytes
   pub told_all : (r : Result File FileEnd) →
-      IfErr r (λ end. Tells end (λ fault. Reads text 0 no_statements (Err fault))) →
-      IfErr r (λ end. Tells end (λ fault. IsReadingOf bytes (Err fault)))
+      IfErr r (λ end. RefusesWith end (λ fault. ReadsFile unread_today text 0 no_statements (Err fault))) →
+      IfErr r (λ end. RefusesWith end (λ fault. IsReadingOf bytes (Err fault)))
   told_all (Ok file) told = tt
   told_all (Err NoMemory) told = tt
   told_all (Err (Refused fault)) told = is_reading (Err fault) told

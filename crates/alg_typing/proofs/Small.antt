@@ -6,9 +6,10 @@ use Rattle.std.proofs.lemmas.Bool.Decides.{nat_tests}
 use Rattle.std.proofs.lemmas.List.Elements.{All-append, All-cons, All-nil}
 use Rattle.alg_terms.proofs.Built.{fold_term-Var, fold_term-Int, fold_term-Neg, fold_term-Add, fold_term-Sub, fold_term-Mul, fold_term-Div, fold_term-Pow, fold_term-Hom}
 use Rattle.alg_terms.specs.declared.file.File.{File}
-use Rattle.alg_terms.specs.declared.limits.TheConstants.{MAX_EXPONENT, MAX_POWER, MAX_LIMIT}
+use Rattle.alg_terms.specs.Limits.{MAX_EXPONENT, MIN_POWER, MAX_POWER, MIN_LIMIT, MAX_LIMIT}
 use Rattle.alg_terms.specs.Nodes.{fold_term}
 use Rattle.alg_terms.specs.Sorts.{node_sort, equation_sort}
+use Rattle.alg_tokens.specs.declared.code.Code.TheVariants as code
 use Rattle.alg_reader.specs.declared.raw.RawEquation.{RawEquation}
 use Rattle.alg_reader.specs.declared.raw.RawMethod.{RawMethod}
 use Rattle.alg_reader.specs.declared.raw.RawMethod.TheVariants as methods
@@ -90,7 +91,7 @@ small_option : (low high : ℕ) (number : Option RawNumber) → high < 2 ^ 32 �
     IfSome number (λ n. unsigned_abs n.value < 2 ^ 32)
 small_option low high None bound h = tt
 small_option low high (Some n) bound h =
-    let e = no_fault (nat_lt (unsigned_abs n.value) low || nat_lt high (unsigned_abs n.value)) 16 n.at h in
+    let e = no_fault (nat_lt (unsigned_abs n.value) low || nat_lt high (unsigned_abs n.value)) code.Option n.at h in
     grind (arith, nat_tests)
 
 -- the options of a method without fault
@@ -99,6 +100,6 @@ pub small_options : (file : File) (text : List ℕ) (final : Option ℕ) (at : �
 small_options file text final at methods.Ring h = tt
 small_options file text final at methods.Field h = tt
 small_options file text final at (methods.Nsatz uses power limit) h =
-    let two = parts_empty _ (option_range 0 MAX_LIMIT limit) h in
-    let one = parts_empty _ (option_range 1 MAX_POWER power) two.0 in
-    (small_option 1 MAX_POWER power (omega arith) one.1, small_option 0 MAX_LIMIT limit (omega arith) two.1)
+    let two = parts_empty _ (option_range MIN_LIMIT MAX_LIMIT limit) h in
+    let one = parts_empty _ (option_range MIN_POWER MAX_POWER power) two.0 in
+    (small_option MIN_POWER MAX_POWER power (omega arith) one.1, small_option MIN_LIMIT MAX_LIMIT limit (omega arith) two.1)

@@ -5,6 +5,7 @@ use Rattle.std.proofs.lemmas.List.{at_drop_more}
 use Rattle.alg_terms.specs.declared.file.File.{File}
 use Rattle.alg_terms.specs.Members.{source_of}
 use Rattle.alg_tokens.specs.declared.token.Refusal.{Refusal}
+use Rattle.alg_tokens.specs.declared.code.Code.TheVariants as code
 use Rattle.alg_reader.specs.declared.raw.RawEquation.{RawEquation}
 use Rattle.alg_reader.specs.declared.raw.Span.{Span}
 use Rattle.alg_typing.specs.declared.sorts.Checked.{Checked}
@@ -29,8 +30,8 @@ module _ (file : File) (text : List ℕ) where
       (differs missing : Option Refusal) → sort ≡ sort_of_sides file text e →
       IsCheckOf file text (record { sort = sort; in_fields = true; may_divide = may }) e.left left →
       IsCheckOf file text (record { sort = sort; in_fields = true; may_divide = may }) e.right right →
-      differs ≡ first_of (fault_if (differ left.own right.own) 9 e.relation) →
-      missing ≡ first_of (fault_if (is_none sort) 10 e.relation) →
+      differs ≡ first_of (fault_if (differ left.own right.own) code.Sort e.relation) →
+      missing ≡ first_of (fault_if (is_none sort) code.NoSort e.relation) →
       earlier_of left.fault (earlier_of right.fault (earlier_of differs missing))
       ≡ first_of (equation_sorts file text may e)
   equation_checked may e sort left right differs missing is_sort is_left is_right is_differs is_missing =
@@ -42,23 +43,23 @@ module _ (file : File) (text : List ℕ) where
       (λ i. earlier_of ((is_left.fault ∙ ap (λ s. first_of (l.faults s true)) final) i)
       (earlier_of ((is_right.fault ∙ ap (λ s. first_of (r.faults s true)) final) i)
       (earlier_of ((is_differs
-      ∙ (λ j. first_of (fault_if (differ (is_left.own j) (is_right.own j)) 9 e.relation))) i)
-      ((is_missing ∙ ap (λ s. first_of (fault_if (is_none s) 10 e.relation)) final) i))))
+      ∙ (λ j. first_of (fault_if (differ (is_left.own j) (is_right.own j)) code.Sort e.relation))) i)
+      ((is_missing ∙ ap (λ s. first_of (fault_if (is_none s) code.NoSort e.relation)) final) i))))
       ∙ sym (first_of-four (l.faults (option_or l.own r.own) true) (r.faults (option_or l.own r.own) true)
-      (fault_if (differ l.own r.own) 9 e.relation) (fault_if (is_none (option_or l.own r.own)) 10 e.relation))
+      (fault_if (differ l.own r.own) code.Sort e.relation) (fault_if (is_none (option_or l.own r.own)) code.NoSort e.relation))
 
   -- a path by its next morphism
   pub path_sorts-turn : (path : List Span) (hyp i : ℕ) (d : Span) (first next fault : Option Refusal) (differs : Bool) →
       i < length path →
       differs ≡
       not (sort_along file text (drop (i + 1) path) hyp == source_of file (number_at file text (get_or path i d))) →
-      fault ≡ first_of (fault_if differs 9 (get_or path i d).start) → next ≡ earlier_of first fault →
+      fault ≡ first_of (fault_if differs code.Sort (get_or path i d).start) → next ≡ earlier_of first fault →
       earlier_of next (first_of (path_sorts file text (drop (i + 1) path) hyp))
       ≡ earlier_of first (first_of (path_sorts file text (drop i path) hyp))
   path_sorts-turn path hyp i d first next fault differs within is is_fault is_next =
       let name = get_or path i d in
       let rest = path_sorts file text (drop (i + 1) path) hyp in
-      let here = is_fault ∙ ap (λ b. first_of (fault_if b 9 name.start)) is in
+      let here = is_fault ∙ ap (λ b. first_of (fault_if b code.Sort name.start)) is in
       ap (λ o. earlier_of o (first_of rest)) (is_next ∙ ap (earlier_of first) here)
       ∙ earlier_of-assoc first _ (first_of rest)
       ∙ ap (earlier_of first) (sym (first_of-append _ rest)

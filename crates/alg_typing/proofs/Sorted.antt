@@ -4,6 +4,7 @@ use Rattle.std.specs.Option.{option_or}
 use Rattle.alg_terms.specs.declared.file.File.{File}
 use Rattle.alg_terms.specs.Members.{kind_of, source_of, target_of}
 use Rattle.alg_tokens.specs.declared.token.Refusal.{Refusal}
+use Rattle.alg_tokens.specs.declared.code.Code.TheVariants as code
 use Rattle.alg_reader.specs.declared.raw.RawTerm.{RawTerm}
 use Rattle.alg_reader.specs.declared.raw.RawNode.TheVariants.{Add, Sub, Mul, Div, Hom}
 use Rattle.alg_reader.specs.declared.raw.RawNode.{RawNode, more_of-RawTerm, Var, Int, Neg', Add', Sub', Mul', Div', Pow', Hom'}
@@ -38,11 +39,11 @@ first_of-three xs ys zs =
 
 faults_joined : (head : ℕ) (o o' p p' : Option ℕ) (f g : Option Refusal) (xs ys : List Refusal) →
     o ≡ o' → p ≡ p' → f ≡ first_of xs → g ≡ first_of ys →
-    earlier_of (first_of (fault_if (differ o p) 9 head)) (earlier_of f g)
-    ≡ first_of (fault_if (differ o' p') 9 head ++ xs ++ ys)
+    earlier_of (first_of (fault_if (differ o p) code.Sort head)) (earlier_of f g)
+    ≡ first_of (fault_if (differ o' p') code.Sort head ++ xs ++ ys)
 faults_joined head o o' p p' f g xs ys is_o is_p is_f is_g =
-    (λ i. earlier_of (first_of (fault_if (differ (is_o i) (is_p i)) 9 head)) (earlier_of (is_f i) (is_g i)))
-    ∙ sym (first_of-three (fault_if (differ o' p') 9 head) xs ys)
+    (λ i. earlier_of (first_of (fault_if (differ (is_o i) (is_p i)) code.Sort head)) (earlier_of (is_f i) (is_g i)))
+    ∙ sym (first_of-three (fault_if (differ o' p') code.Sort head) xs ys)
 
 module _ (file : File) (text : List ℕ) where
   -- whether a term may have quotients is no matter for its own sort
@@ -87,7 +88,7 @@ module _ (file : File) (text : List ℕ) where
     -- an operator other than a quotient is checked by its parts
     pub combined : (l r p q : RawTerm) (a b : Checked) → Combines t l r → p ≡ l → q ≡ r →
         IsCheckOf file text at p a → IsCheckOf file text at q b → c.own ≡ option_or a.own b.own →
-        c.fault ≡ earlier_of (first_of (fault_if (differ a.own b.own) 9 t.head)) (earlier_of a.fault b.fault) →
+        c.fault ≡ earlier_of (first_of (fault_if (differ a.own b.own) code.Sort t.head)) (earlier_of a.fault b.fault) →
         IsCheckOf file text at t c
     combined l r p q a b is is_l is_r left right own fault =
         let may = at.may_divide in
@@ -100,7 +101,7 @@ module _ (file : File) (text : List ℕ) where
     -- a quotient is checked by its own fault and as any operator
     pub divided : (l r p q : RawTerm) (a b both : Checked) (own_fault : Option Refusal) → t.node ≡ Div l r → p ≡ l →
         q ≡ r → IsCheckOf file text at p a → IsCheckOf file text at q b → both.own ≡ option_or a.own b.own →
-        both.fault ≡ earlier_of (first_of (fault_if (differ a.own b.own) 9 t.head)) (earlier_of a.fault b.fault) →
+        both.fault ≡ earlier_of (first_of (fault_if (differ a.own b.own) code.Sort t.head)) (earlier_of a.fault b.fault) →
         own_fault ≡ first_of (quotient file text at.may_divide t.head at.sort at.in_fields) → c.own ≡ both.own →
         c.fault ≡ earlier_of own_fault both.fault → IsCheckOf file text at t c
     divided l r p q a b both own_fault is is_l is_r left right own fault is_own is_c faults =
@@ -125,13 +126,13 @@ module _ (file : File) (text : List ℕ) where
           in_fields = at.in_fields && is_field (kind_of file (target_of file hom));
         } →
         IsCheckOf file text below p a → c.own ≡ Some (target_of file hom) →
-        c.fault ≡ earlier_of (first_of (fault_if (differ a.own (Some (source_of file hom))) 9 t.head)) a.fault →
+        c.fault ≡ earlier_of (first_of (fault_if (differ a.own (Some (source_of file hom))) code.Sort t.head)) a.fault →
         IsCheckOf file text at t c
     imaged name l p hom below a is is_l is_hom is_below part own fault =
         let may = at.may_divide in
         let inner = sorted file text may p in
         let here = subst (λ (b : Standing). IsCheckOf file text b p a) is_below part in
-        let at_hom = λ (h : ℕ). earlier_of (first_of (fault_if (differ inner.own (Some (source_of file h))) 9 t.head))
+        let at_hom = λ (h : ℕ). earlier_of (first_of (fault_if (differ inner.own (Some (source_of file h))) code.Sort t.head))
         (first_of (inner.faults (Some (source_of file h))
         (at.in_fields && is_field (kind_of file (target_of file h))))) in
         by_sorted (node_sorted file text may t.head (RawNode-F.Hom name inner))
@@ -140,8 +141,8 @@ module _ (file : File) (text : List ℕ) where
         ∙ sym (λ i. node_sorted file text may t.head (RawNode-F.Hom name (sorted file text may (is_l i)))))
         (own ∙ ap (λ h. Some (target_of file h)) is_hom)
         (fault
-        ∙ (λ i. earlier_of (first_of (fault_if (differ (here.own i) (Some (source_of file hom))) 9 t.head))
+        ∙ (λ i. earlier_of (first_of (fault_if (differ (here.own i) (Some (source_of file hom))) code.Sort t.head))
         (here.fault i))
         ∙ ap at_hom is_hom
-        ∙ sym (first_of-append (fault_if (differ inner.own (Some (source_of file (number_at file text name)))) 9 t.head)
+        ∙ sym (first_of-append (fault_if (differ inner.own (Some (source_of file (number_at file text name)))) code.Sort t.head)
         _))

@@ -5,12 +5,13 @@ use Rattle.std.specs.Int.RustNames.{unsigned_abs}
 use Rattle.std.specs.List.{AllByRecursion}
 use Rattle.std.proofs.lemmas.Bool.Decides.{nat_tests}
 use Rattle.alg_terms.specs.declared.file.File.{File}
-use Rattle.alg_terms.specs.declared.limits.TheConstants.{MAX_LITERAL, MAX_EXPONENT}
+use Rattle.alg_terms.specs.Limits.{MAX_LITERAL, MAX_EXPONENT}
 use Rattle.alg_terms.specs.declared.term.Term.{Term}
 use Rattle.alg_terms.specs.Members.{source_of}
 use Rattle.alg_terms.specs.Nodes.{EachNode}
 use Rattle.alg_terms.specs.Sorts.{own_sort, Agree}
 use Rattle.alg_terms.specs.TermRules.{HasLiteral, HasExponent, HasAgreeingParts, HasFittingArgument}
+use Rattle.alg_tokens.specs.declared.code.Code.TheVariants as code
 use Rattle.alg_reader.specs.declared.raw.RawNode.{RawNode, more_of-RawTerm, Var, Int, Neg', Add', Sub', Mul', Div', Pow', Hom'}
 use Rattle.alg_reader.specs.declared.raw.RawNumber.{RawNumber}
 use Rattle.alg_reader.specs.RawTerms.{fold_under, of_parts, literals_of_node}
@@ -23,7 +24,7 @@ use Rattle.alg_typing.proofs.Resolving.{agree_if, resolved, sorted_under, own_re
 -- an exponent without fault is at most the greatest
 pub exponent_in_range : (n : RawNumber) → exponent n ≡ [] → unsigned_abs n.value ≤ MAX_EXPONENT
 exponent_in_range n h =
-    let low : nat_lt MAX_EXPONENT (unsigned_abs n.value) ≡ false = no_fault _ 12 n.at h in grind (arith, nat_tests)
+    let low : nat_lt MAX_EXPONENT (unsigned_abs n.value) ≡ false = no_fault _ code.Exponent n.at h in grind (arith, nat_tests)
 
 module _ (file : File) (text : List ℕ) where
   -- literals in range stay so
@@ -71,26 +72,26 @@ module _ (file : File) (text : List ℕ) where
       let (sorts, left) = parts_empty _ _ front in
       let (e, p, a) = rules_kept b k t final in_fields left in
       let (f, q, c) = rules_kept b l u final in_fields right in
-      ((tt, e, f), (agree b k t l u (no_fault _ 9 head sorts), p, q), (tt, a, c))
+      ((tt, e, f), (agree b k t l u (no_fault _ code.Sort head sorts), p, q), (tt, a, c))
   rules_kept b head (Sub' _ (more_of-RawTerm k t _) _ (more_of-RawTerm l u _)) final in_fields h =
       let (front, right) = parts_empty _ _ h in
       let (sorts, left) = parts_empty _ _ front in
       let (e, p, a) = rules_kept b k t final in_fields left in
       let (f, q, c) = rules_kept b l u final in_fields right in
-      ((tt, e, f), (agree b k t l u (no_fault _ 9 head sorts), p, q), (tt, a, c))
+      ((tt, e, f), (agree b k t l u (no_fault _ code.Sort head sorts), p, q), (tt, a, c))
   rules_kept b head (Mul' _ (more_of-RawTerm k t _) _ (more_of-RawTerm l u _)) final in_fields h =
       let (front, right) = parts_empty _ _ h in
       let (sorts, left) = parts_empty _ _ front in
       let (e, p, a) = rules_kept b k t final in_fields left in
       let (f, q, c) = rules_kept b l u final in_fields right in
-      ((tt, e, f), (agree b k t l u (no_fault _ 9 head sorts), p, q), (tt, a, c))
+      ((tt, e, f), (agree b k t l u (no_fault _ code.Sort head sorts), p, q), (tt, a, c))
   rules_kept b head (Div' _ (more_of-RawTerm k t _) _ (more_of-RawTerm l u _)) final in_fields h =
       let (here, rest) = parts_empty _ _ h in
       let (front, right) = parts_empty _ _ rest in
       let (sorts, left) = parts_empty _ _ front in
       let (e, p, a) = rules_kept b k t final in_fields left in
       let (f, q, c) = rules_kept b l u final in_fields right in
-      ((tt, e, f), (agree b k t l u (no_fault _ 9 head sorts), p, q), (tt, a, c))
+      ((tt, e, f), (agree b k t l u (no_fault _ code.Sort head sorts), p, q), (tt, a, c))
   rules_kept b head (Pow' _ (more_of-RawTerm k t _) n) final in_fields h =
       let (here, rest) = parts_empty _ _ h in
       let (e, p, a) = rules_kept b k t final in_fields rest in
@@ -101,5 +102,5 @@ module _ (file : File) (text : List ℕ) where
       let (e, p, a) = rules_kept b k t (Some (source_of file f)) _ rest in
       let fits : Agree (own_sort file (resolved file text k t)) (Some (source_of file f)) =
       subst (λ s. Agree s (Some (source_of file f))) (own_resolved file text b k t)
-      (agree_if _ _ (no_fault _ 9 head here)) in
+      (agree_if _ _ (no_fault _ code.Sort head here)) in
       ((tt, e), (tt, p), (fits, a))

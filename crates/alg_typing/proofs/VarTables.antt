@@ -7,6 +7,7 @@ use Rattle.std.proofs.lemmas.List.{length-append}
 use Rattle.alg_terms.specs.declared.declarations.VarDecl.{VarDecl}
 use Rattle.alg_terms.specs.declared.file.File.{File}
 use Rattle.alg_terms.specs.declared.file.Statement.{Statement}
+use Rattle.alg_tokens.specs.declared.code.Code.TheVariants as code
 use Rattle.alg_reader.specs.declared.raw.Span.{Span}
 use Rattle.alg_reader.specs.WellRead.{bytes_at}
 use Rattle.alg_typing.specs.declared.declaration.Declaration.{Declaration}
@@ -41,7 +42,7 @@ module _ (file : File) (text : List ℕ) where
   are_new table before number (name ∷ names) has none =
       let key = bytes_at text name in
       let parts = parts_empty (new_name file text before name) (new_names file text (key ∷ before) names) none in (
-        none_found (find table key) _ (has key) (no_fault _ 6 name.start parts.0),
+        none_found (find table key) _ (has key) (no_fault _ code.Again name.start parts.0),
         are_new (table ++ (key, as_a.Var number) ∷ []) (key ∷ before) (number + 1) names
             (λ other. ap is_some (find-push table key (as_a.Var number) other)
             ∙ found_more (find table other) _ _ (bytes_eq other key) (as_a.Var number) (has other))

@@ -1,4 +1,4 @@
--- What an end without a file tells, and goals by ring.
+-- What an end without a file says, and goals by ring.
 use Rattle.alg_terms.specs.declared.goals.Goal.{Goal}
 use Rattle.std.specs.Prelude.{◌≡◌}
 use Rattle.alg_terms.specs.declared.goals.Method.TheVariants.{ByRing}
@@ -6,10 +6,10 @@ use Rattle.alg_tokens.specs.declared.token.Refusal.{Refusal}
 use Rattle.alg_reader.specs.declared.reading.FileEnd.{FileEnd}
 use Rattle.alg_reader.specs.declared.reading.FileEnd.TheVariants.{Refused, NoMemory}
 
--- a fault is told only where this holds of it; want of memory tells nothing
-abbrev pub Tells : FileEnd → (Refusal → Type 0) → Type 0
-Tells (Refused fault) Holds = Holds fault
-Tells NoMemory Holds = Unit {0}
+-- this holds of the fault, where it ends with one; want of memory says nothing
+abbrev pub RefusesWith : FileEnd → (Refusal → Type 0) → Type 0
+RefusesWith (Refused fault) Holds = Holds fault
+RefusesWith NoMemory Holds = Unit {0}
 
 -- the goal is to be decided by ring
 abbrev pub IsByRing : Goal → Type 0

@@ -1,14 +1,12 @@
 -- Faults and which of them comes first.
 use Rattle.std.specs.Prelude.{ℕ, Bool, ◌||◌, ◌&&◌, ◌==◌, nat_lt, if◌then◌else◌, List, [], ◌∷◌, Option, None, Some}
+use Rattle.alg_tokens.specs.declared.code.Code.{Code}
 use Rattle.alg_tokens.specs.declared.token.Refusal.{Refusal}
-
--- a code at a byte
-abbrev pub fault : ℕ → ℕ → Refusal
-fault code at = record { code = code; at = at }
+use Rattle.alg_tokens.specs.Codes.{fault_at}
 
 -- a fault at a byte, where there is one
-abbrev pub fault_if : Bool → ℕ → ℕ → List Refusal
-fault_if there code at = if there then fault code at ∷ [] else []
+abbrev pub fault_if : Bool → Code → ℕ → List Refusal
+fault_if there code at = if there then fault_at code at ∷ [] else []
 
 -- the first stands before the second: at a lesser byte, or at the same byte with a lesser code
 abbrev pub comes_before : Refusal → Refusal → Bool

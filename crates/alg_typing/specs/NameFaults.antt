@@ -1,7 +1,8 @@
--- The faults of names: declared again (6), not declared (7), or declared as something else (8).
+-- The faults of names: declared again, not declared, or declared as something else.
 use Rattle.std.specs.Prelude.{ℕ, Bool, ◌||◌, not, List, [], ◌∷◌, ◌++◌, bytes_eq, flat_map, Option, None, Some, is_some}
 use Rattle.std.specs.List.{list_any}
 use Rattle.alg_terms.specs.declared.file.File.{File}
+use Rattle.alg_tokens.specs.declared.code.Code.TheVariants as code
 use Rattle.alg_tokens.specs.declared.token.Refusal.{Refusal}
 use Rattle.alg_reader.specs.declared.raw.RawEquation.{RawEquation}
 use Rattle.alg_reader.specs.declared.raw.RawKind.{RawKind}
@@ -15,14 +16,15 @@ use Rattle.alg_reader.specs.declared.raw.Span.{Span}
 use Rattle.alg_reader.specs.RawTerms.{Node, fold_raw, of_parts}
 use Rattle.alg_reader.specs.WellRead.{bytes_at}
 use Rattle.alg_typing.specs.declared.declaration.Declaration.{Declaration}
-use Rattle.alg_typing.specs.Faults.{fault, fault_if}
+use Rattle.alg_tokens.specs.Codes.{fault_at}
+use Rattle.alg_typing.specs.Faults.{fault_if}
 use Rattle.alg_typing.specs.Names.{declared_as, is_sort, is_hom, is_var, is_hyp}
 
 module _ (file : File) (text : List ℕ) where
   -- the fault of a name that is used where something is wanted, by what it is declared as
   abbrev pub misuse : (Declaration → Bool) → ℕ → Option Declaration → List Refusal
-  misuse is_wanted at None = fault 7 at ∷ []
-  misuse is_wanted at (Some declaration) = fault_if (not (is_wanted declaration)) 8 at
+  misuse is_wanted at None = fault_at code.Unknown at ∷ []
+  misuse is_wanted at (Some declaration) = fault_if (not (is_wanted declaration)) code.WrongUse at
 
   abbrev pub used_name : (Declaration → Bool) → Span → List Refusal
   used_name is_wanted name = misuse is_wanted name.start (declared_as file (bytes_at text name))
@@ -31,7 +33,7 @@ module _ (file : File) (text : List ℕ) where
   abbrev pub new_name : List (List ℕ) → Span → List Refusal
   new_name before name =
       let bytes = bytes_at text name in
-      fault_if (is_some (declared_as file bytes) || list_any (bytes_eq bytes) before) 6 name.start
+      fault_if (is_some (declared_as file bytes) || list_any (bytes_eq bytes) before) code.Again name.start
 
   -- the faults of several names that are to be declared, one after the other
   abbrev pub new_names : List (List ℕ) → List Span → List Refusal

@@ -11,6 +11,7 @@ use Rattle.alg_terms.specs.declared.goals.Method.TheVariants.{ByRing, ByField, B
 use Rattle.alg_terms.specs.declared.goals.Use.{Use}
 use Rattle.alg_terms.specs.declared.term.Term.{Term}
 use Rattle.alg_terms.specs.declared.term.Term.TheVariants as term
+use Rattle.alg_terms.specs.Limits.{DEFAULT_POWER, DEFAULT_LIMIT}
 use Rattle.alg_terms.specs.Sorts.{equation_sort}
 use Rattle.alg_reader.specs.declared.raw.RawEquation.{RawEquation}
 use Rattle.alg_reader.specs.declared.raw.RawKind.{RawKind}
@@ -63,7 +64,7 @@ module _ (file : File) (text : List ℕ) where
   method_of methods.Ring = ByRing
   method_of methods.Field = ByField
   method_of (methods.Nsatz uses power limit) =
-      ByNsatz (map use_of uses) (option_of 1 power) (option_of 10000 limit)
+      ByNsatz (map use_of uses) (option_of DEFAULT_POWER power) (option_of DEFAULT_LIMIT limit)
 
   -- variables of one sort, by their names
   abbrev pub vars_of : ℕ → List Span → List VarDecl

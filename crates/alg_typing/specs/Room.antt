@@ -1,16 +1,20 @@
 -- When a file has room for one more statement.
-use Rattle.std.specs.Prelude.{◌<◌, ◌+◌, ◌^◌, length}
+use Rattle.std.specs.Prelude.{◌<◌, ◌+◌, length}
 use Rattle.alg_terms.specs.declared.file.File.{File}
-use Rattle.alg_terms.specs.declared.limits.TheConstants.{USES_END}
+use Rattle.alg_terms.specs.Limits.{MEMBERS_END}
 use Rattle.alg_reader.specs.declared.raw.RawKind.{RawKind}
-use Rattle.alg_reader.specs.WellRead.{members_in}
+use Rattle.alg_reader.specs.declared.raw.RawKind.TheVariants as raws
 
--- each list of the file, and its order, has fewer than 2^32 members with those of the statement, and a goal has few uses
+-- the list to which a statement adds has few enough members with it
+abbrev pub HasRoomIn : File → RawKind → Type 0
+HasRoomIn file raws.End = Unit {0}
+HasRoomIn file (raws.Sort kind name char0) = length file.sorts + 1 < MEMBERS_END
+HasRoomIn file (raws.Hom name from to) = length file.homs + 1 < MEMBERS_END
+HasRoomIn file (raws.Vars names sort) = length file.vars + length names < MEMBERS_END
+HasRoomIn file (raws.Hyp name e) = length file.hyps + 1 < MEMBERS_END
+HasRoomIn file (raws.Goal e method method_at) = length file.goals + 1 < MEMBERS_END
+
+-- and so have the statements
 pub record HasRoom (file : File) (kind : RawKind) : Type 0 where
-  pub sorts : length file.sorts + members_in kind < 2 ^ 32
-  pub homs : length file.homs + members_in kind < 2 ^ 32
-  pub vars : length file.vars + members_in kind < 2 ^ 32
-  pub hyps : length file.hyps + members_in kind < 2 ^ 32
-  pub goals : length file.goals + members_in kind < 2 ^ 32
-  pub order : length file.order + members_in kind < 2 ^ 32
-  pub uses : members_in kind < USES_END
+  pub members : HasRoomIn file kind
+  pub order : length file.order + 1 < MEMBERS_END

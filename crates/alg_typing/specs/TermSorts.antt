@@ -5,8 +5,9 @@ use Rattle.std.specs.Option.{option_or, option_map_or}
 use Rattle.alg_terms.specs.declared.declarations.Kind.{Kind}
 use Rattle.alg_terms.specs.declared.declarations.Kind.TheVariants.{Ring, Field}
 use Rattle.alg_terms.specs.declared.file.File.{File}
-use Rattle.alg_terms.specs.declared.limits.TheConstants.{MAX_EXPONENT}
+use Rattle.alg_terms.specs.Limits.{MAX_EXPONENT}
 use Rattle.alg_terms.specs.Members.{kind_of, source_of, target_of, sort_of_var}
+use Rattle.alg_tokens.specs.declared.code.Code.TheVariants as code
 use Rattle.alg_tokens.specs.declared.token.Refusal.{Refusal}
 use Rattle.alg_reader.specs.declared.raw.RawNode.TheOpen.{RawNode-F}
 use Rattle.alg_reader.specs.declared.raw.RawNumber.{RawNumber}
@@ -38,34 +39,34 @@ pub record Sorted : Type 0 where
 abbrev pub leaf : Option ℕ → Sorted
 leaf own = record { own = own; faults = λ final in_fields. [] }
 
--- an operator: the own sorts of its parts may not differ (9)
+-- an operator: the own sorts of its parts may not differ
 abbrev pub operator : ℕ → Sorted → Sorted → Sorted
 operator head left right = record {
   own = option_or left.own right.own;
   faults = λ final in_fields.
-      fault_if (differ left.own right.own) 9 head ++ left.faults final in_fields ++ right.faults final in_fields;
+      fault_if (differ left.own right.own) code.Sort head ++ left.faults final in_fields ++ right.faults final in_fields;
 }
 
--- the numeral of an exponent is over the greatest (12)
+-- the numeral of an exponent is over the greatest
 abbrev pub exponent : RawNumber → List Refusal
-exponent n = fault_if (nat_lt MAX_EXPONENT (unsigned_abs n.value)) 12 n.at
+exponent n = fault_if (nat_lt MAX_EXPONENT (unsigned_abs n.value)) code.Exponent n.at
 
 module _ (file : File) (text : List ℕ) where
   -- a sort that is there is no field
   abbrev pub is_no_field : Option ℕ → Bool
   is_no_field sort = option_map_or (λ s. not (is_field (kind_of file s))) sort false
 
-  -- a quotient stands where none may, or at a sort that is no field, or below a morphism to one (13)
+  -- a quotient stands where none may, or at a sort that is no field, or below a morphism to one
   abbrev pub quotient : Bool → ℕ → Option ℕ → Bool → List Refusal
   quotient may_divide head final in_fields =
-      fault_if (not may_divide || is_no_field final || not in_fields) 13 head
+      fault_if (not may_divide || is_no_field final || not in_fields) code.Division head
 
-  -- the image under a morphism: its argument has no own sort other than the source (9)
+  -- the image under a morphism: its argument has no own sort other than the source
   abbrev pub image : ℕ → ℕ → Sorted → Sorted
   image f head part = record {
     own = Some (target_of file f);
     faults = λ final in_fields.
-        fault_if (differ part.own (Some (source_of file f))) 9 head
+        fault_if (differ part.own (Some (source_of file f))) code.Sort head
         ++ part.faults (Some (source_of file f)) (in_fields && is_field (kind_of file (target_of file f)));
   }
 

@@ -1,7 +1,7 @@
 -- What the functions over terms that were read ask of them.
 use Rattle.std.specs.Prelude.{◌≤◌, ◌<◌, ◌^◌, ℕ, List, All, IfSome}
 use Rattle.std.specs.Int.RustNames.{unsigned_abs}
-use Rattle.alg_terms.specs.declared.limits.TheConstants.{MAX_EXPONENT}
+use Rattle.alg_terms.specs.Limits.{MAX_EXPONENT}
 use Rattle.alg_reader.specs.declared.raw.RawMethod.{RawMethod}
 use Rattle.alg_reader.specs.declared.raw.RawMethod.TheVariants as methods
 use Rattle.alg_reader.specs.declared.raw.RawNumber.{RawNumber}

@@ -1,9 +1,9 @@
 //! Statements that are added to the file so far, or refused at their first fault.
 
-ghost use Rattle.std.specs.Prelude.{◌≡◌, ◌≢◌, ◌≤◌, ℕ, length, None, Some, IfOk, IfErr, OnOk, OnErr};
+ghost use Rattle.std.specs.Prelude.{◌≡◌, ◌≤◌, ℕ, length, None, Some, IfOk, IfErr, OnOk, OnErr};
 ghost use Rattle.alg_terms.specs.Valid.{IsValid};
 ghost use Rattle.alg_reader.specs.WellRead.{IsWellKind, IsWellRead};
-ghost use Rattle.alg_typing.specs.Ends.{Tells};
+ghost use Rattle.alg_typing.specs.Ends.{RefusesWith};
 ghost use Rattle.alg_typing.specs.Reading.{first_fault};
 ghost use Rattle.alg_typing.specs.Resolved.{extended};
 ghost use Rattle.alg_typing.specs.Room.{HasRoom};
@@ -12,7 +12,7 @@ use crate::Declared;
 use crate::scope::Scope;
 use alg_reader::{FileEnd, Raw, RawKind};
 use alg_terms::{Goal, NoMemory};
-use alg_tokens::Refusal;
+use alg_tokens::{Code, Refusal};
 use std::alloc::Global;
 
 impl Scope<'_> {
@@ -24,7 +24,7 @@ impl Scope<'_> {
             (λ fault. fault ≡ first_fault self.now.declared.now self.now.text.now raw.now) }
     {
         if let Some(at) = raw.too_deep {
-            return Ok(Some(Refusal { code: 11, at }));
+            return Ok(Some(Code::Depth.at(at)));
         }
         match self.name_faults(alloc, &raw.kind)? {
             Some(fault) => Ok(Some(fault)),
@@ -40,12 +40,11 @@ impl Declared {
     pub fn add(&mut self, alloc: Global, text: &str, raw: Raw) -> Result<(), FileEnd>
         requires size { length text.now ≤ 16777216 }
         requires well_read { (at : ℕ) × IsWellRead text.now at raw }
-        requires statement { raw.kind ≢ RawKind.End }
         requires room { HasRoom self.old raw.kind }
         ensures ok { OnOk result
             ((first_fault self.old text.now raw ≡ None) × (self.new ≡ extended self.old text.now raw.kind)) }
         ensures refused { IfErr result
-            (λ end. Tells end (λ fault. first_fault self.old text.now raw ≡ Some fault)) }
+            (λ end. RefusesWith end (λ fault. first_fault self.old text.now raw ≡ Some fault)) }
         ensures err { OnErr result (self.new ≡ self.old) }
     {
         let added = self.add_read(alloc, text, &raw);
@@ -57,12 +56,13 @@ impl Declared {
     /// Adds a statement that was read from the text, or tells its first fault.
     #[tactic(none)]
     fn add_read(&mut self, alloc: Global, text: &str, raw: &Raw) -> Result<(), FileEnd>
+        requires size { length text.now ≤ 16777216 }
         requires well_read { (at : ℕ) × IsWellRead text.now at raw.now }
         requires room { HasRoom self.old raw.now.kind }
         ensures ok { OnOk result ((first_fault self.old text.now raw.now ≡ None)
             × (self.new ≡ extended self.old text.now raw.now.kind)) }
         ensures refused { IfErr result
-            (λ end. Tells end (λ fault. first_fault self.old text.now raw.now ≡ Some fault)) }
+            (λ end. RefusesWith end (λ fault. first_fault self.old text.now raw.now ≡ Some fault)) }
         ensures err { OnErr result (self.new ≡ self.old) }
     {
         match self.first_fault(alloc, text, raw)? {
@@ -89,6 +89,7 @@ impl Declared {
     /// Adds a statement without fault. Where there is no memory nothing is changed.
     fn extend(&mut self, alloc: Global, text: &str, raw: &Raw) -> Result<(), NoMemory>
         requires valid { IsValid self.old }
+        requires size { length text.now ≤ 16777216 }
         requires well_read { (at : ℕ) × IsWellRead text.now at raw.now }
         requires room { HasRoom self.old raw.now.kind }
         requires faultless { first_fault self.old text.now raw.now ≡ None }

@@ -1,11 +1,11 @@
 //! Terms of answers to the goals of the file so far.
 
-ghost use Rattle.std.specs.Prelude.{◌≡◌, ◌≤◌, ◌<◌, length, None, Some, IfOk, IfErr};
+ghost use Rattle.std.specs.Prelude.{◌≡◌, ◌<◌, length, None, Some, IfOk, IfErr};
 ghost use Rattle.alg_terms.specs.AnswerRules.{IsAnswerTerm};
 ghost use Rattle.alg_terms.specs.Members.{goal_at};
 ghost use Rattle.alg_reader.specs.WellRead.{IsWellTerm};
 ghost use Rattle.alg_typing.specs.AnswerTerms.{may_divide, answer_sorts, first_fault_of_term};
-ghost use Rattle.alg_typing.specs.Ends.{Tells};
+ghost use Rattle.alg_typing.specs.Ends.{RefusesWith};
 ghost use Rattle.alg_typing.specs.Faults.{first_of};
 ghost use Rattle.alg_typing.specs.Resolved.{term_of};
 ghost use Rattle.alg_typing.specs.TermsOf.{IsTermOf};
@@ -61,14 +61,13 @@ impl Declared {
     /// Its final sort is its own, or the goal's where it has none. Linear in the term.
     #[tactic(none)]
     pub fn term(&self, alloc: Global, text: &str, raw: &RawTerm, goal: u32) -> Result<Term, FileEnd>
-        requires size { length text.now ≤ 16777216 }
         requires well_read { IsWellTerm text.now raw.now }
         requires goal { goal < length self.now.goals }
         ensures ok { IfOk result (λ term.
             (first_fault_of_term self.now text.now (goal_at self.now goal) raw.now ≡ None)
             × (term ≡ term_of self.now text.now raw.now)) }
         ensures rules { IfOk result (IsAnswerTerm self.now (goal_at self.now goal)) }
-        ensures refused { IfErr result (λ end. Tells end
+        ensures refused { IfErr result (λ end. RefusesWith end
             (λ fault. first_fault_of_term self.now text.now (goal_at self.now goal) raw.now ≡ Some fault)) }
     {
         let scope = Scope {

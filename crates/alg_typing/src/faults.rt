@@ -3,17 +3,13 @@
 ghost use Rattle.std.specs.Prelude.{◌≡◌};
 ghost use Rattle.alg_typing.specs.Faults.{earlier_of, fault_if, first_of};
 
-use alg_tokens::Refusal;
+use alg_tokens::{Code, Refusal};
 
 /// A fault at a byte, where there is one.
-pub(crate) fn fault_where(there: bool, code: u8, at: u32) -> Option<Refusal>
+pub(crate) fn fault_where(there: bool, code: Code, at: u32) -> Option<Refusal>
     ensures { result ≡ first_of (fault_if there code at) }
 {
-    if there {
-        Some(Refusal { code, at })
-    } else {
-        None
-    }
+    if there { Some(code.at(at)) } else { None }
 }
 
 /// Of two, where there are any, the one that comes first.

@@ -14,7 +14,7 @@ use crate::names::name_in;
 use crate::scope::Scope;
 use alg_reader::{RawEquation, RawKind, RawMethod, RawNode, RawTerm, RawUse, Span};
 use alg_terms::NoMemory;
-use alg_tokens::Refusal;
+use alg_tokens::{Code, Refusal};
 use indexmap::IndexSet;
 use std::alloc::Global;
 
@@ -25,8 +25,8 @@ impl Scope<'_> {
         ensures { result ≡ first_of (used_name self.now.declared.now self.now.text.now (is_wanted wanted) name) }
     {
         match self.declared_as(name) {
-            None => fault_where(true, 7, name.start),
-            Some(declaration) => fault_where(!wanted.is(declaration), 8, name.start),
+            None => fault_where(true, Code::Unknown, name.start),
+            Some(declaration) => fault_where(!wanted.is(declaration), Code::WrongUse, name.start),
         }
     }
 
@@ -117,7 +117,7 @@ impl Scope<'_> {
         requires { IsNameAt self.now.text.now name }
         ensures { result ≡ first_of (new_name self.now.declared.now self.now.text.now [] name) }
     {
-        fault_where(self.declared_as(name).is_some(), 6, name.start)
+        fault_where(self.declared_as(name).is_some(), Code::Again, name.start)
     }
 
     /// The first fault of names that are to be declared, one after the other. Linear in their bytes.
@@ -131,7 +131,7 @@ impl Scope<'_> {
         for name in names {
             let text = name_in(self.text, *name);
             let again = self.declared.declared_as(text).is_some() || before.contains(text);
-            first = earlier(first, fault_where(again, 6, name.start));
+            first = earlier(first, fault_where(again, Code::Again, name.start));
             before.insert(String::from_str(alloc, text)?)?;
         }
         Ok(first)

@@ -2,13 +2,14 @@
 
 ghost use Rattle.std.specs.Prelude.{◌≡◌, ◌≤◌, length, All, Ok, Err, IfOk, IfErr};
 ghost use Rattle.alg_terms.specs.Valid.{IsValid};
-ghost use Rattle.alg_typing.specs.Ends.{Tells, IsByRing};
-ghost use Rattle.alg_typing.specs.Reading.{IsReadingOf, Reads, no_statements};
+ghost use Rattle.alg_reader.specs.Tokens.{unread_at};
+ghost use Rattle.alg_typing.specs.Ends.{RefusesWith, IsByRing};
+ghost use Rattle.alg_typing.specs.Reading.{IsReadingOf, ReadsFile, no_statements};
 
 use crate::Declared;
 use alg_reader::{FileEnd, Place, RawKind, read_statement};
 use alg_terms::File;
-use alg_tokens::Refusal;
+use alg_tokens::Code;
 use std::alloc::Global;
 use std::str;
 
@@ -18,15 +19,15 @@ use std::str;
 pub fn read_file(alloc: Global, bytes: &[u8]) -> Result<File, FileEnd>
     requires { length bytes.now ≤ 16777216 }
     ensures ok { IfOk result (λ file. IsReadingOf bytes.now (Ok file) × IsValid file) }
-    ensures refused { IfErr result (λ end. Tells end (λ fault. IsReadingOf bytes.now (Err fault))) }
+    ensures refused { IfErr result (λ end. RefusesWith end (λ fault. IsReadingOf bytes.now (Err fault))) }
     ensures by_ring { IfOk result (λ file. All IsByRing file.goals) }
 {
     match str::from_utf8(bytes) {
         Ok(text) => read_text(alloc, text),
-        Err(error) => Err(FileEnd::Refused(Refusal {
-            code: 1,
-            at: error.valid_up_to() as u32,
-        })),
+        Err(error) => {
+            let end = error.valid_up_to() as u32;
+            Err(FileEnd::Refused(Code::Utf8.at(end)))
+        }
     }
 }
 
@@ -34,9 +35,9 @@ pub fn read_file(alloc: Global, bytes: &[u8]) -> Result<File, FileEnd>
 #[tactic(none)]
 fn read_text(alloc: Global, text: &str) -> Result<File, FileEnd>
     requires { length text.now ≤ 16777216 }
-    ensures ok { IfOk result (λ file. Reads text.now 0 no_statements (Ok file) × IsValid file) }
+    ensures ok { IfOk result (λ file. ReadsFile (unread_at Place.Plain) text.now 0 no_statements (Ok file) × IsValid file) }
     ensures refused { IfErr result
-        (λ end. Tells end (λ fault. Reads text.now 0 no_statements (Err fault))) }
+        (λ end. RefusesWith end (λ fault. ReadsFile (unread_at Place.Plain) text.now 0 no_statements (Err fault))) }
     ensures by_ring { IfOk result (λ file. All IsByRing file.goals) }
 {
     Ok(read_declared(alloc, text)?.into_file())
@@ -46,9 +47,9 @@ fn read_text(alloc: Global, text: &str) -> Result<File, FileEnd>
 #[tactic(none)]
 pub(crate) fn read_declared(alloc: Global, text: &str) -> Result<Declared, FileEnd>
     requires { length text.now ≤ 16777216 }
-    ensures ok { IfOk result (λ file. Reads text.now 0 no_statements (Ok file)) }
+    ensures ok { IfOk result (λ file. ReadsFile (unread_at Place.Plain) text.now 0 no_statements (Ok file)) }
     ensures refused { IfErr result
-        (λ end. Tells end (λ fault. Reads text.now 0 no_statements (Err fault))) }
+        (λ end. RefusesWith end (λ fault. ReadsFile (unread_at Place.Plain) text.now 0 no_statements (Err fault))) }
     ensures by_ring { IfOk result (λ file. All IsByRing file.goals) }
 {
     let mut declared = Declared::new(alloc);

@@ -10,8 +10,8 @@ use crate::faults::{earlier, fault_where};
 use crate::scope::Scope;
 use crate::sorts::{Standing, differ, is_field};
 use alg_reader::{RawEquation, RawKind, RawMethod, RawNumber, RawUse, Span};
-use alg_terms::{Kind, MAX_LIMIT, MAX_POWER};
-use alg_tokens::Refusal;
+use alg_terms::{GREATEST_LIMIT, GREATEST_POWER, Kind, LEAST_LIMIT, LEAST_POWER};
+use alg_tokens::{Code, Refusal};
 
 /// Whether a goal by this method may have quotients.
 fn may_divide_by(method: &RawMethod) -> bool
@@ -40,7 +40,11 @@ fn option_fault(low: u32, high: u32, number: Option<RawNumber>) -> Option<Refusa
     match number {
         Some(n) => {
             let value = n.value.unsigned_abs();
-            fault_where(value < low as u128 || value > high as u128, 16, n.at)
+            fault_where(
+                value < low as u128 || value > high as u128,
+                Code::Option,
+                n.at,
+            )
         }
         None => None,
     }
@@ -68,8 +72,8 @@ impl Scope<'_> {
         };
         let left = self.check(&e.left, at);
         let right = self.check(&e.right, at);
-        let differs = fault_where(differ(left.own, right.own), 9, e.relation);
-        let missing = fault_where(sort.is_none(), 10, e.relation);
+        let differs = fault_where(differ(left.own, right.own), Code::Sort, e.relation);
+        let missing = fault_where(sort.is_none(), Code::NoSort, e.relation);
         earlier(left.fault, earlier(right.fault, earlier(differs, missing)))
     }
 
@@ -93,7 +97,7 @@ impl Scope<'_> {
         for (i, name) in path.iter().enumerate() {
             let source = self.declared.source_of(self.number_at(*name));
             let differs = self.sort_along(&path[i + 1..], hyp) != source;
-            first = earlier(first, fault_where(differs, 9, name.start));
+            first = earlier(first, fault_where(differs, Code::Sort, name.start));
         }
         first
     }
@@ -118,8 +122,8 @@ impl Scope<'_> {
         let path = used.path.items();
         let start = start_of(used);
         let own = Some(self.sort_along(path, hyp));
-        let differs = fault_where(differ(own, sort), 9, start);
-        let unequal = fault_where(self.is_bad_unequal(path, hyp), 15, start);
+        let differs = fault_where(differ(own, sort), Code::Sort, start);
+        let unequal = fault_where(self.is_bad_unequal(path, hyp), Code::NotField, start);
         earlier(self.path_fault(path, hyp), earlier(differs, unequal))
     }
 
@@ -143,13 +147,13 @@ impl Scope<'_> {
     {
         match method {
             RawMethod::Ring => None,
-            RawMethod::Field => fault_where(self.is_no_field(sort), 15, method_at),
+            RawMethod::Field => fault_where(self.is_no_field(sort), Code::NotField, method_at),
             RawMethod::Nsatz { uses, power, limit } => {
-                let ring = fault_where(self.is_no_domain(sort), 14, method_at);
+                let ring = fault_where(self.is_no_domain(sort), Code::NotDomain, method_at);
                 let uses = self.uses_fault(sort, uses.items());
                 let options = earlier(
-                    option_fault(1, MAX_POWER, *power),
-                    option_fault(0, MAX_LIMIT, *limit),
+                    option_fault(LEAST_POWER, GREATEST_POWER, *power),
+                    option_fault(LEAST_LIMIT, GREATEST_LIMIT, *limit),
                 );
                 earlier(ring, earlier(uses, options))
             }

@@ -3,6 +3,7 @@
 ghost use Rattle.std.specs.Prelude.{◌≡◌, ◌&&◌, not, false, Some, None};
 ghost use Rattle.std.specs.Option.{option_or, option_map_or};
 ghost use Rattle.alg_terms.specs.Members.{kind_of, source_of, target_of, hyp_at};
+ghost use Rattle.alg_tokens.specs.declared.code.Code.TheVariants as code;
 ghost use Rattle.alg_typing.specs.Faults.{first_of, fault_if, earlier_of};
 ghost use Rattle.alg_typing.specs.TermSorts.{is_ring, is_field, differ, exponent, is_no_field, quotient, sorted};
 ghost use Rattle.alg_typing.specs.Checks.{IsCheckOf};
@@ -11,8 +12,8 @@ ghost use Rattle.alg_typing.specs.TermsOf.{IsTermOf};
 use crate::faults::{earlier, fault_where};
 use crate::scope::Scope;
 use alg_reader::{RawNode, RawNumber, RawTerm};
-use alg_terms::{Kind, MAX_EXPONENT};
-use alg_tokens::Refusal;
+use alg_terms::{GREATEST_EXPONENT, Kind};
+use alg_tokens::{Code, Refusal};
 
 /// Where a term stands: its final sort, where it has one, whether all morphisms over it go to
 /// fields, and whether there may be quotients at all.
@@ -64,11 +65,8 @@ pub(crate) fn differ(first: Option<u32>, second: Option<u32>) -> bool
 fn exponent_fault(numeral: RawNumber) -> Option<Refusal>
     ensures { result ≡ first_of (exponent numeral) }
 {
-    fault_where(
-        numeral.value.unsigned_abs() > MAX_EXPONENT as u128,
-        12,
-        numeral.at,
-    )
+    let over = numeral.value.unsigned_abs() > GREATEST_EXPONENT as u128;
+    fault_where(over, Code::Exponent, numeral.at)
 }
 
 impl Scope<'_> {
@@ -162,7 +160,7 @@ impl Scope<'_> {
         ensures { result ≡ first_of (quotient self.now.declared.now self.now.text.now at.may_divide head at.sort at.in_fields) }
     {
         let refused = !at.may_divide || self.is_no_field(at.sort) || !at.in_fields;
-        fault_where(refused, 13, head)
+        fault_where(refused, Code::Division, head)
     }
 
     /// Where the argument of a morphism stands.
@@ -185,12 +183,12 @@ impl Scope<'_> {
     fn image(&self, head: u32, hom: u32, part: Checked) -> Checked
         ensures own { result.own ≡ Some (target_of self.now.declared.now hom) }
         ensures fault { result.fault ≡ earlier_of
-            (first_of (fault_if (differ part.own (Some (source_of self.now.declared.now hom))) 9 head)) part.fault }
+            (first_of (fault_if (differ part.own (Some (source_of self.now.declared.now hom))) code.Sort head)) part.fault }
     {
         let differs = differ(part.own, Some(self.declared.source_of(hom)));
         Checked {
             own: Some(self.declared.target_of(hom)),
-            fault: earlier(fault_where(differs, 9, head), part.fault),
+            fault: earlier(fault_where(differs, Code::Sort, head), part.fault),
         }
     }
 }
@@ -218,11 +216,14 @@ fn behind(fault: Option<Refusal>, checked: Checked) -> Checked
 fn operator(head: u32, left: Checked, right: Checked) -> Checked
     ensures own { result.own ≡ option_or left.own right.own }
     ensures fault { result.fault
-        ≡ earlier_of (first_of (fault_if (differ left.own right.own) 9 head)) (earlier_of left.fault right.fault) }
+        ≡ earlier_of (first_of (fault_if (differ left.own right.own) code.Sort head)) (earlier_of left.fault right.fault) }
 {
     let parts = earlier(left.fault, right.fault);
     Checked {
         own: left.own.or(right.own),
-        fault: earlier(fault_where(differ(left.own, right.own), 9, head), parts),
+        fault: earlier(
+            fault_where(differ(left.own, right.own), Code::Sort, head),
+            parts,
+        ),
     }
 }

@@ -8,7 +8,7 @@ ghost use Rattle.alg_typing.specs.TermsOf.{IsSmallTermOf, HasSmallOptions};
 
 use crate::scope::Scope;
 use alg_reader::{RawEquation, RawMethod, RawNode, RawNumber, RawTerm, RawUse, Span};
-use alg_terms::{Equation, Method, NoMemory, Seq, Term, Use};
+use alg_terms::{Equation, Method, NoMemory, Seq, Term, USUAL_LIMIT, USUAL_POWER, Use};
 use sqlite_items::Boxed;
 use std::alloc::Global;
 
@@ -125,8 +125,8 @@ impl Scope<'_> {
             RawMethod::Field => Ok(Method::ByField),
             RawMethod::Nsatz { uses, power, limit } => Ok(Method::ByNsatz {
                 uses: Seq::from_vec(self.uses_of(alloc, uses.items())?),
-                power: option_of(1, *power),
-                limit: option_of(10_000, *limit),
+                power: option_of(USUAL_POWER, *power),
+                limit: option_of(USUAL_LIMIT, *limit),
             }),
         }
     }

@@ -1,5 +1,4 @@
-use Rattle.alg_reading_back.proofs.FilesBack.{written_by_grammar}
-use Rattle.alg_reading_back.proofs.TodayBack.{reads_back}
+use Rattle.alg_reading_back.proofs.Readings.{reads_back, written_by_grammar}
 use Rattle.alg_reading_back.proofs.laws.reads_back.Goals as goal
 
 pub returns-clause-by_grammar : goal.returns-clause-by_grammar

@@ -10,7 +10,7 @@ use Rattle.std.proofs.lemmas.List.Sums.{prefix_len_passes}
 use Rattle.std.proofs.lemmas.Bool.Decides.{nat_tests}
 use Rattle.alg_terms.specs.Names.{IsSpelledAsName}
 use Rattle.alg_tokens.specs.declared.token.Sign.{Sign}
-use Rattle.alg_tokens.specs.declared.token.TheConstants.{MAX}
+use Rattle.alg_terms.specs.Limits.{MAX_LITERAL}
 use Rattle.alg_tokens.specs.Pieces.{value_of, Spells}
 use Rattle.alg_tokens.specs.Runs.{sign_of}
 use Rattle.alg_tokens.proofs.Longest.{run_of_digits, number_first, run_spelled}
@@ -46,14 +46,14 @@ returns-in-Some-clause-token c =
     (omega arith) value in
     rw (to_z-of_z fits) (omega (arith, ints), inr (c.if-digits-gt0.true, omega arith, first))
 
--- a numeral over MAX
+-- a numeral over MAX_LITERAL
 pub returns-in-None-clause-token : goal.returns-in-None-clause-token
 returns-in-None-clause-token c =
     let value : ℤ = pos (value_of (take c.digit_len-digits.result c.args.text.now)) in
     let run : c.digit_len-digits.result ≡ prefix_len is_ascii_digit c.args.text.now = grind (arith, common_steps) in
     let first = number_first c.args.text.now c.digit_len-digits.result value run c.if-digits-gt0.true
     (omega arith) refl in
-    let over : MAX <ℤ value = grind (arith, common_steps) in
+    let over : MAX_LITERAL <ℤ value = grind (arith, common_steps) in
     inr (
       refl,
       (

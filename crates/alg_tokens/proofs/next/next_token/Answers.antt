@@ -8,8 +8,8 @@ returns-in-Err-clause-next c =
       arith,
       c.range_from-rest.ensures.len,
     ) in
-    refused_next c.args.text.now _ _ c.args.at c.blank_end.result c.in-Err.code c.range_from.ensures.value
-    c.range_from-rest.ensures.value within c.blank_end.ensures.blanks c.in-Err.ensures.token
+    rw c.at.ensures (refused_next c.args.text.now _ _ c.args.at c.blank_end.result c.in-Err.code
+    c.range_from.ensures.value c.range_from-rest.ensures.value within c.blank_end.ensures.blanks c.in-Err.ensures.token)
 
 pub returns-in-Ok-clause-next : goal.returns-in-Ok-clause-next
 returns-in-Ok-clause-next c =

@@ -2,17 +2,18 @@ use Rattle.std.proofs.Common.{refl, sym, subst, All, ◌≡◌, length}
 use Rattle.std.proofs.lemmas.List.Elements.{All-nil}
 use Rattle.std.proofs.lemmas.Str.{IsCharBoundary-start}
 use Rattle.alg_terms.specs.declared.file.File.{File}
+use Rattle.alg_reader.specs.Tokens.{unread_today}
 use Rattle.alg_typing.specs.Ends.{IsByRing}
-use Rattle.alg_typing.specs.Reading.{Reads, no_statements}
+use Rattle.alg_typing.specs.Reading.{ReadsFile, no_statements}
 use Rattle.alg_typing.proofs.FirstFaults.{error_tells_nothing}
-use Rattle.alg_typing.proofs.ReadingSteps.{HasAtMost, none_at_first, has_room, still_few, goes_on, smaller, by_ring_still, decides_still, ends_here, told_reading, told_fault, passed_on}
+use Rattle.alg_typing.proofs.ReadingSteps.{HasAtMost, none_at_first, has_room, still_few, goes_on, smaller, still_by_ring, decides_still, ends_here, told_reading, told_fault, passed_on}
 use Rattle.alg_typing.proofs.reading.read_declared.Goals as goal
 
 pub statements-init : goal.statements-init
 statements-init c =
     let is : c.new-declared.result ≡ no_statements = c.new-declared.ensures in
     record {
-      decides = λ outcome reads. subst (λ (f : File). Reads c.args.text.now 0 f outcome) is reads;
+      decides = λ outcome reads. subst (λ (f : File). ReadsFile unread_today c.args.text.now 0 f outcome) is reads;
       boundary = IsCharBoundary-start c.args.text.now c.utf8.text;
       few = subst (λ (f : File). HasAtMost f 0) (sym is) none_at_first;
       by_ring = subst (λ (f : File). All IsByRing f.goals) (sym is) (All-nil IsByRing);
@@ -59,7 +60,6 @@ add-requires c =
     record {
       size = c.requires;
       well_read = (c.statements.at, c.in_ok-raw.ensures.well_read);
-      statement = c.in_default.not-End;
       room = has_room c.statements.declared c.args.text.now c.statements.at c.in_ok-raw.raw invariant.few
           c.in_ok-raw.ensures.well_read c.in_default.not-End c.requires;
     }
@@ -89,7 +89,7 @@ statements-preserved c =
       boundary = well.stops;
       few = more;
       by_ring = subst (λ (f : File). All IsByRing f.goals) (sym is)
-          (by_ring_still c.statements.declared text c.statements.at raw invariant.by_ring well);
+          (still_by_ring c.statements.declared text raw.kind invariant.by_ring c.in_ok-raw.ensures.readable);
     }
 
 -- a statement has a fault, or there is no memory

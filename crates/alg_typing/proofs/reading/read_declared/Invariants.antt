@@ -2,16 +2,17 @@ use Rattle.std.proofs.Common.{◌-◌, length, All, Result}
 use Rattle.std.specs.Str.{IsCharBoundary}
 use Rattle.alg_terms.specs.declared.file.File.{File}
 use Rattle.alg_tokens.specs.declared.token.Refusal.{Refusal}
+use Rattle.alg_reader.specs.Tokens.{unread_today}
 use Rattle.alg_typing.specs.Ends.{IsByRing}
-use Rattle.alg_typing.specs.Reading.{Reads, no_statements}
+use Rattle.alg_typing.specs.Reading.{ReadsFile, no_statements}
 use Rattle.alg_typing.proofs.ReadingSteps.{HasAtMost}
 use Rattle.alg_typing.proofs.reading.read_declared.Given as goal
 
 -- what the rest of the text is read to be decides what all of it is; each member took a byte at least
 abbrev pub invariant-statements : goal.invariant-statements
 invariant-statements l = record {
-  decides : (outcome : Result File Refusal) → Reads l.text l.at l.declared outcome →
-      Reads l.text 0 no_statements outcome;
+  decides : (outcome : Result File Refusal) → ReadsFile unread_today l.text l.at l.declared outcome →
+      ReadsFile unread_today l.text 0 no_statements outcome;
   boundary : IsCharBoundary l.text l.at;
   few : HasAtMost l.declared l.at;
   by_ring : All IsByRing l.declared.goals;

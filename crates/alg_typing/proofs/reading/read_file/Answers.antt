@@ -1,4 +1,4 @@
-use Rattle.std.proofs.Common.{◌<◌, ◌≤◌, List, ℕ, length, sym, subst, inr, refl}
+use Rattle.std.proofs.Common.{◌<◌, ◌≤◌, List, ℕ, length, sym, subst, inr, ap, Err}
 use Rattle.std.specs.Str.{IsUtf8, IsValidUpTo}
 use Rattle.alg_typing.proofs.ReadingSteps.{small_place, read_all, told_all}
 use Rattle.alg_typing.proofs.reading.read_file.Goals as goal
@@ -24,13 +24,13 @@ pub returns-in-Ok-clause-by_ring : goal.returns-in-Ok-clause-by_ring
 returns-in-Ok-clause-by_ring c = c.read_text.ensures.by_ring
 
 -- they are none
-pub overflow_cast-result : goal.overflow_cast-result
-overflow_cast-result c =
-    let short = subst (λ (n : ℕ). n < length c.args.bytes.now) (sym c.valid_up_to.ensures)
+pub overflow_cast-end : goal.overflow_cast-end
+overflow_cast-end c =
+    let short = subst (λ (n : ℕ). n < length c.args.bytes.now) (sym c.valid_up_to-end.ensures)
     c.in-Err.ensures.cases.1.short in
-    small_place c.valid_up_to.result (length c.args.bytes.now) short c.requires
+    small_place c.valid_up_to-end.result (length c.args.bytes.now) short c.requires
 
 pub returns-in-Err-clause-refused : goal.returns-in-Err-clause-refused
 returns-in-Err-clause-refused c =
-    let longest = subst (IsValidUpTo c.args.bytes.now) (sym c.valid_up_to.ensures) c.in-Err.ensures.cases.1 in
-    inr (c.in-Err.ensures.cases.0, (c.valid_up_to.result, longest, refl))
+    let longest = subst (IsValidUpTo c.args.bytes.now) (sym c.valid_up_to-end.ensures) c.in-Err.ensures.cases.1 in
+    inr (c.in-Err.ensures.cases.0, (c.valid_up_to-end.result, longest, ap (λ f. Err f) c.at.ensures))

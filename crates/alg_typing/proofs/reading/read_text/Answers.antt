@@ -1,7 +1,8 @@
 use Rattle.std.proofs.Common.{sym, subst, All, Ok}
 use Rattle.alg_terms.specs.declared.file.File.{File}
+use Rattle.alg_reader.specs.Tokens.{unread_today}
 use Rattle.alg_typing.specs.Ends.{IsByRing}
-use Rattle.alg_typing.specs.Reading.{Reads, no_statements}
+use Rattle.alg_typing.specs.Reading.{ReadsFile, no_statements}
 use Rattle.alg_typing.proofs.FirstFaults.{error_tells_nothing}
 use Rattle.alg_typing.proofs.ReadingSteps.{passed_on}
 use Rattle.alg_typing.proofs.reading.read_text.Goals as goal
@@ -21,7 +22,7 @@ returns-in_err-read_declared-clause-by_ring c = error_tells_nothing _ _ c.from_r
 
 pub returns-clause-ok : goal.returns-clause-ok
 returns-clause-ok c = (
-  subst (λ (f : File). Reads c.args.text.now 0 no_statements (Ok f)) (sym c.into_file.ensures.file)
+  subst (λ (f : File). ReadsFile unread_today c.args.text.now 0 no_statements (Ok f)) (sym c.into_file.ensures.file)
       c.in_ok-read_declared.ensures.ok,
   c.into_file.ensures.valid,
 )

@@ -1,5 +1,8 @@
 use Rattle.alg_typing.proofs.known.Declared.add.Goals as goal
 
+pub add_read-added-requires-clause-size : goal.add_read-added-requires-clause-size
+add_read-added-requires-clause-size c = c.requires.size
+
 pub add_read-added-requires-clause-well_read : goal.add_read-added-requires-clause-well_read
 add_read-added-requires-clause-well_read c = c.requires.well_read
 

@@ -19,6 +19,9 @@ returns-in_err-fault-clause-err c = on_error _ c.from_residual.result refl
 pub extend-requires-clause-valid : goal.extend-requires-clause-valid
 extend-requires-clause-valid c = c.first_fault.ensures.valid
 
+pub extend-requires-clause-size : goal.extend-requires-clause-size
+extend-requires-clause-size c = c.requires.size
+
 pub extend-requires-clause-well_read : goal.extend-requires-clause-well_read
 extend-requires-clause-well_read c = c.requires.well_read
 

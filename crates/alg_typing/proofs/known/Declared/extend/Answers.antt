@@ -10,12 +10,12 @@ use Rattle.alg_typing.specs.SortFaults.{sort_faults, equation_sorts, may_divide_
 use Rattle.alg_typing.proofs.NumbersInRange.{parts_empty}
 use Rattle.alg_typing.proofs.Extended.{extended_is_valid}
 use Rattle.alg_typing.proofs.Faultless.{no_name_faults, no_sort_faults}
-use Rattle.alg_typing.proofs.Small.{small_sides}
+use Rattle.alg_typing.proofs.Small.{small_options, small_sides}
 use Rattle.alg_typing.proofs.known.Declared.extend.Goals as goal
 
 pub add_sort-requires-clause-valid : goal.add_sort-requires-clause-valid
 add_sort-requires-clause-valid c =
-    let valid = extended_is_valid c.args.self.now c.args.text.now _ c.args.raw.now c.requires.valid
+    let valid = extended_is_valid c.args.self.now c.args.text.now _ c.args.raw.now c.requires.valid c.requires.size
     c.requires.well_read.1 c.requires.room c.requires.faultless in
     subst (λ (k : RawKind). IsValid (extended c.args.self.now c.args.text.now k)) c.in-Sort.is valid
 
@@ -23,7 +23,7 @@ pub add_hom-requires-clause-valid : goal.add_hom-requires-clause-valid
 add_hom-requires-clause-valid c =
     let file = c.args.self.now in
     let text = c.args.text.now in
-    let valid = extended_is_valid file text _ c.args.raw.now c.requires.valid
+    let valid = extended_is_valid file text _ c.args.raw.now c.requires.valid c.requires.size
     c.requires.well_read.1 c.requires.room c.requires.faultless in
     subst IsValid
     (λ i. with_hom file (record {
@@ -45,7 +45,7 @@ pub add_vars-requires-clause-valid : goal.add_vars-requires-clause-valid
 add_vars-requires-clause-valid c =
     let file = c.args.self.now in
     let text = c.args.text.now in
-    let valid = extended_is_valid file text _ c.args.raw.now c.requires.valid c.requires.well_read.1 c.requires.room
+    let valid = extended_is_valid file text _ c.args.raw.now c.requires.valid c.requires.size c.requires.well_read.1 c.requires.room
     c.requires.faultless in
     let spans = sym c.items.ensures in
     subst IsValid
@@ -72,7 +72,7 @@ pub add_hyp-requires-clause-valid : goal.add_hyp-requires-clause-valid
 add_hyp-requires-clause-valid c =
     let file = c.args.self.now in
     let text = c.args.text.now in
-    let valid = extended_is_valid file text _ c.args.raw.now c.requires.valid c.requires.well_read.1 c.requires.room
+    let valid = extended_is_valid file text _ c.args.raw.now c.requires.valid c.requires.size c.requires.well_read.1 c.requires.room
     c.requires.faultless in
     subst IsValid
     (λ i. with_hyp file (record {
@@ -104,11 +104,21 @@ equation_of-requires-in-Goal-clause-right c =
     (sym (ap (sort_faults file text) c.in-Goal.is) ∙ no_sort_faults file text c.args.raw.now c.requires.faultless) in
     (small_sides file text may e well.0 faults.0).1
 
+pub method_of-requires-clause-options : goal.method_of-requires-clause-options
+method_of-requires-clause-options c =
+    let file = c.args.self.now in
+    let text = c.args.text.now in
+    let e = c.in-Goal.equation in
+    let may = may_divide_by file text c.in-Goal.method in
+    let faults = parts_empty (equation_sorts file text may e) _
+    (sym (ap (sort_faults file text) c.in-Goal.is) ∙ no_sort_faults file text c.args.raw.now c.requires.faultless) in
+    small_options file text _ _ c.in-Goal.method faults.1
+
 pub add_goal-requires : goal.add_goal-requires
 add_goal-requires c =
     let file = c.args.self.now in
     let text = c.args.text.now in
-    let valid = extended_is_valid file text _ c.args.raw.now c.requires.valid c.requires.well_read.1 c.requires.room
+    let valid = extended_is_valid file text _ c.args.raw.now c.requires.valid c.requires.size c.requires.well_read.1 c.requires.room
     c.requires.faultless in
     subst IsValid
     (λ i. with_goal file (record {

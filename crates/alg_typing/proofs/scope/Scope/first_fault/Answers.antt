@@ -1,10 +1,11 @@
-use Rattle.std.proofs.Common.{sym, ◌∙◌}
+use Rattle.std.proofs.Common.{Some, sym, ◌∙◌, ap}
 use Rattle.alg_typing.proofs.FirstFaults.{error_tells_nothing, first_is_deep, first_is_name, first_is_sort}
 use Rattle.alg_typing.proofs.scope.Scope.first_fault.Goals as goal
 
 pub returns-in-Some : goal.returns-in-Some
 returns-in-Some c =
-    first_is_deep c.args.self.now.declared.now c.args.self.now.text.now c.args.raw.now c.in-Some.at c.in-Some.is
+    ap Some c.at.ensures
+    ∙ first_is_deep c.args.self.now.declared.now c.args.self.now.text.now c.args.raw.now c.in-Some.at c.in-Some.is
 
 pub name_faults-requires : goal.name_faults-requires
 name_faults-requires c = c.requires
