@@ -30,13 +30,13 @@ module _ (P : Atom → Type 0) where
   plus_in p q h g =
       Each-collect falling integers.amounts (λ m. Each P m) (p ++ q) (Each-append (λ m. Each P m) p q h g)
 
-  times_in : (p q : Polynomial) → EachAtom p → EachAtom q → EachAtom (times_poly p q)
+  pub times_in : (p q : Polynomial) → EachAtom p → EachAtom q → EachAtom (times_poly p q)
   times_in p q h g =
       Each-collect falling integers.amounts (λ m. Each P m) (products times integers.mul p q)
       (Each-products times integers.mul (λ m. Each P m) (λ m. Each P m) (λ m. Each P m)
       (λ m n a b. Each-collect atom_cmp exponents P (m ++ n) (Each-append P m n a b)) p q h g)
 
-  power_in : (p : Polynomial) (n : ℕ) → EachAtom p → EachAtom (power_poly p n)
+  pub power_in : (p : Polynomial) (n : ℕ) → EachAtom p → EachAtom (power_poly p n)
   power_in p zero h = Each-keep falling integers.amounts (λ m. Each P m) [] integers.one [] tt tt
   power_in p (suc n) h = times_in p (power_poly p n) h (power_in p n h)
 

@@ -23,10 +23,11 @@ use Rattle.alg_reify.proofs.Once.{same_test}
 use Rattle.alg_reify.proofs.Undone.{monos_back, undone}
 
 -- a test by an order in which only equal keys tie
-passes : {K : Type 0} {cmp : K → K → Ordering} → IsTotalOrder cmp → (x y : K) → x ≡ y → eq_by_cmp cmp x y ≡ true
+pub passes : {K : Type 0} {cmp : K → K → Ordering} → IsTotalOrder cmp → (x y : K) → x ≡ y → eq_by_cmp cmp x y ≡ true
 passes {cmp} o x y e = ap is_eq (ap (cmp x) (sym e) ∙ tied_itself o x)
 
-only_equal : {K : Type 0} {cmp : K → K → Ordering} → IsAntisymmetric cmp → (x y : K) → eq_by_cmp cmp x y ≡ true → x ≡ y
+pub only_equal : {K : Type 0} {cmp : K → K → Ordering} → IsAntisymmetric cmp → (x y : K) → eq_by_cmp cmp x y ≡ true →
+    x ≡ y
 only_equal {cmp} anti x y h = anti x y (equal (cmp x y) (subst T (sym h) tt))
 
 module _ {K L : Type 0} {ck : K → K → Ordering} {cl : L → L → Ordering}
@@ -82,7 +83,7 @@ module _ {K L : Type 0} {ck : K → K → Ordering} {cl : L → L → Ordering}
       ∙ ap (λ k. coefficient (falling cl) integers k (poly_image ck cl f p)) round
 
 -- an atom of the table comes back from its number, and so do monomials and polynomials
-atoms_back : (atoms : List Atom) (m : List (Atom × ℕ)) → Each (Contains atoms) m →
+pub atoms_back : (atoms : List Atom) (m : List (Atom × ℕ)) → Each (Contains atoms) m →
     Each (λ a. atom_at atoms (number_of atoms a) ≡ a) m
 atoms_back atoms m h = Each-weaker (λ a held. (contained_numbered atoms a held).1) m h
 

@@ -1,6 +1,7 @@
 pub mod Table
 pub mod Adding
 pub mod Numbered
+pub mod NumberedFractions
 pub mod Making
 pub mod RingVerdict
 pub mod Stops

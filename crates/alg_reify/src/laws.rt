@@ -1,12 +1,19 @@
 //! What holds of numbered polynomials and of the verdicts by ring. The functions do nothing: their
 //! contracts are the laws.
 
+ghost use Rattle.alg_reify.specs.NumberedFractions.{NumberingKeeps};
 ghost use Rattle.alg_reify.specs.Laws.{NumberedCoefficients, OneRingVerdict, NoDiffers, NoIsOverTheTable, NoIsWithinRange};
 
 /// A polynomial over the atoms of a table has, after its atoms are numbered, its own coefficient at
 /// the image of each monomial over these atoms.
 pub fn numbered_coefficients()
     ensures { NumberedCoefficients }
+{}
+
+/// Numbering the atoms of a table keeps the fractions that are made of fractions, the rules that they
+/// break, and whether a numerator is zero, 1 or -1, or a constant.
+pub fn numbering_keeps_fractions()
+    ensures { NumberingKeeps }
 {}
 
 /// An equation has at most one verdict by ring.

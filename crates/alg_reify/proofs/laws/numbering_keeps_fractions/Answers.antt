@@ -1,0 +1,5 @@
+use Rattle.alg_reify.proofs.NumberedRules.{numbering_keeps}
+use Rattle.alg_reify.proofs.laws.numbering_keeps_fractions.Goals as goal
+
+pub returns : goal.returns
+returns c = numbering_keeps
