@@ -1,0 +1,15 @@
+pub mod Leads
+pub mod Divisors
+pub mod Cancelling
+pub mod State
+pub mod Choices
+pub mod Moves
+pub mod Machine
+pub mod Runs
+pub mod Sound
+pub mod Pruning
+pub mod Laws
+pub mod Work
+pub mod Working
+pub mod Workable
+pub mod Steps
