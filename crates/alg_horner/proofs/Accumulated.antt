@@ -2,7 +2,7 @@
 use Rattle.std.specs.Prelude.{◌≡◌, ℕ, ◌+◌, ◌*◌, ◌≤◌, ℤ, pos, ◌+ℤ◌, ◌*ℤ◌}
 use Rattle.std.proofs.Common.{sym, ap, subst, ◌∙◌, arith}
 use Rattle.std.specs.Int.RustNames.{unsigned_abs}
-use Rattle.alg_poly.specs.Poly.{Polynomial}
+use Rattle.alg_mono.specs.NumberedPolynomials.{Polynomial}
 use Rattle.alg_horner.specs.Form.{Form, weight}
 use Rattle.alg_horner.specs.Maps.{sum, product, constant, power, map_of, placed}
 use Rattle.alg_horner.proofs.Ring.{sum_comm, sum_assoc, product_assoc, product_comm, product_sum, sum_product, zero_sum, constant-sum, constant-product, Is-product, Is-map, Is-power}

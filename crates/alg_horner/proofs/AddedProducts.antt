@@ -1,8 +1,9 @@
 -- The map of a form to which a product was added, arm by arm.
-use Rattle.std.specs.Prelude.{◌≡◌, ℕ, ◌+◌, ◌-◌, ◌<◌, ◌≤◌, ℤ, pos}
-use Rattle.std.proofs.Common.{refl, sym, ap, ◌∙◌, arith}
-use Rattle.alg_poly.specs.Poly.{Polynomial}
-use Rattle.alg_horner.specs.Form.{Form}
+use Rattle.std.specs.Prelude.{◌≡◌, ℕ, ◌+◌, ◌*◌, ◌-◌, ◌<◌, ◌≤◌, ℤ, pos}
+use Rattle.std.proofs.Common.{refl, sym, ap, subst, ◌∙◌, arith}
+use Rattle.std.specs.Int.RustNames.{unsigned_abs}
+use Rattle.alg_mono.specs.NumberedPolynomials.{Polynomial}
+use Rattle.alg_horner.specs.Form.{Form, weight}
 use Rattle.alg_horner.specs.Maps.{sum, product, constant, power, map_of, placed}
 use Rattle.alg_horner.proofs.Ring.{sum_comm, sum_assoc, product_assoc, product_comm, product_sum, sum_product, zero_sum, zero_product, power-add, Is-product, Is-map, Is-power}
 use Rattle.alg_horner.proofs.Sums.{at, placed_sum, higher_map}
@@ -131,3 +132,27 @@ before_is s j k h t r z u p q none head made =
     let zero : s + 0 ≡ s = omega arith in
     made s ∙ (λ n. placed (zero n) h (map_of (zero n) u) (map_of (zero n + 1) t))
     ∙ ap (λ y. placed s h y (map_of (s + 1) t)) (from_none s (s + j) (s + k) z u p q none (head s))
+
+-- ---- weights
+pub number_fits : (d : ℤ) (w bound : ℕ) (p q : Form) → q ≡ Form.Const d → w + weight p * weight q ≤ bound →
+    w + unsigned_abs d * weight p ≤ bound
+number_fits d w bound p q is h =
+    let g : w + weight p * unsigned_abs d ≤ bound = subst (λ (f : Form). w + weight p * weight f ≤ bound) is h in omega arith
+
+pub weight_right : (h w u r : ℕ) (c d p q : Form) → q ≡ Form.Mix c h d → u ≤ w + weight p * weight d →
+    r ≤ u + weight p * weight c → r ≤ w + weight p * weight q
+weight_right h w u r c d p q is rest head =
+    subst (λ (f : Form). r ≤ w + weight p * weight f) (sym is)
+    (let e = split (weight p) (weight c) (weight d) in omega arith)
+  where
+    split : (p c d : ℕ) → p * (c + d) ≡ p * c + p * d
+    split p c d = omega arith
+
+pub weight_left : (i w u r : ℕ) (a b p q : Form) → p ≡ Form.Mix a i b → u ≤ w + weight b * weight q →
+    r ≤ u + weight a * weight q → r ≤ w + weight p * weight q
+weight_left i w u r a b p q is rest head =
+    subst (λ (f : Form). r ≤ w + weight f * weight q) (sym is)
+    (let e = split (weight a) (weight b) (weight q) in omega arith)
+  where
+    split : (a b q : ℕ) → (a + b) * q ≡ a * q + b * q
+    split a b q = omega arith

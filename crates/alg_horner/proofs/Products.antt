@@ -3,8 +3,8 @@ use Rattle.std.specs.Prelude.{◌≡◌, ◌≢◌, ℕ, ◌+◌, ◌*◌, ◌-�
 use Rattle.std.proofs.Common.{sym, ap, subst, ◌∙◌, arith}
 use Rattle.std.specs.Int.RustNames.{unsigned_abs}
 use Rattle.alg_mono.proofs.Domain.{product_some}
-use Rattle.alg_poly.proofs.Rows.{some_number}
-use Rattle.alg_poly.specs.Poly.{Polynomial}
+use Rattle.alg_mono.proofs.Rows.{some_number}
+use Rattle.alg_mono.specs.NumberedPolynomials.{Polynomial}
 use Rattle.alg_horner.specs.Form.{Form, IsSome, IsHead, weight}
 use Rattle.alg_horner.specs.Maps.{sum, product, constant, power, map_of, placed}
 use Rattle.alg_horner.proofs.Ring.{sum_comm, zero_sum, product_comm, product_assoc, sum_product, product_sum, Is-product, Is-map, Is-power, constant-product}

@@ -1,7 +1,7 @@
 -- The map of the sum of two forms, arm by arm.
 use Rattle.std.specs.Prelude.{◌≡◌, ℕ, ◌+◌, ◌-◌, ◌<◌, ℤ, pos, ◌+ℤ◌}
 use Rattle.std.proofs.Common.{refl, sym, ap, ◌∙◌, arith}
-use Rattle.alg_poly.specs.Poly.{Polynomial}
+use Rattle.alg_mono.specs.NumberedPolynomials.{Polynomial}
 use Rattle.alg_horner.specs.Form.{Form}
 use Rattle.alg_horner.specs.Maps.{sum, product, constant, power, map_of, placed}
 use Rattle.alg_horner.proofs.Ring.{sum_comm, sum_assoc, sum_left, product_assoc, sum_product, zero_sum, Is, Is-map, Is-product, Is-power, power-add, constant-sum}

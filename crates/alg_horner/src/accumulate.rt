@@ -17,7 +17,7 @@ use std::alloc::Global;
 use std::mem;
 
 /// `e + c*d`.
-fn add_product(e: i128, c: i128, d: i128) -> i128
+fn add_number_product(e: i128, c: i128, d: i128) -> i128
     requires { unsigned_abs e + unsigned_abs c * unsigned_abs d ≤ MAX }
     ensures sum { result ≡ e +ℤ (c *ℤ d) }
     ensures small { unsigned_abs result ≤ unsigned_abs e + unsigned_abs c * unsigned_abs d }
@@ -76,7 +76,7 @@ pub(crate) fn add_multiple(
         Horner::Skip(l, rest) => add_copy(alloc, Horner::Skip(l, rest), c, q),
         Horner::Const(e) => match q {
             Horner::Const(d) => {
-                *slot = Horner::Const(add_product(e, c, *d));
+                *slot = Horner::Const(add_number_product(e, c, *d));
                 Ok(slot)
             }
             _ => add_copy(alloc, Horner::Const(e), c, q),

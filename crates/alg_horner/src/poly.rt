@@ -2,20 +2,24 @@
 
 ghost use Rattle.std.specs.Prelude.{◌≡◌, ◌*◌, ◌^◌, ◌≤◌, ◌↔◌, ◌∷◌, [], IfOk, IfErr, IsTrue, pos};
 ghost use Rattle.std.specs.Int.RustNames.{unsigned_abs};
+ghost use Rattle.std.specs.Ordering.{nat_cmp};
 ghost use Rattle.alg_mono.specs.Monomials.{MAX_DEGREE};
 ghost use Rattle.alg_mono.specs.Outcomes.{Outcome, sum_outcome, product_outcome, power_outcome};
-ghost use Rattle.alg_mono.specs.Polynomials.{MAX, norm, poly_degree, poly_neg};
+ghost use Rattle.alg_mono.specs.Polynomials.{IsPoly, MAX, norm, poly_degree, poly_neg};
 ghost use Rattle.alg_mono.specs.Refusals.{Tells};
-ghost use Rattle.alg_poly.specs.Poly.{atom_of, term_of, sum_of, difference_of, product_of, power_of};
+ghost use Rattle.alg_mono.specs.NumberedPolynomials.{atom_of, term_of, sum_of, difference_of, product_of, power_of};
+ghost use Rattle.alg_horner.specs.Maps.{map_of, IsSound};
+ghost use Rattle.alg_horner.specs.Trees.{form_of};
 
+use crate::accumulate::add_multiple;
 use crate::build::is_zero;
 use crate::horner::{self, Horner, boxed};
 use crate::measure::{height, weight};
 use crate::power::raise_any;
-use crate::terms::{copies, to_poly};
+use crate::terms::{collected, push_terms};
 use crate::scale::multiple;
 use crate::times::times;
-use crate::{NoMemory, add};
+use crate::NoMemory;
 use alg_mono::{Mono, Overrun};
 use std::alloc::Global;
 use std::marker::Model;
@@ -34,7 +38,7 @@ pub struct HornerPoly {
 }
 
 impl Model for HornerPoly {
-    ghost use Rattle.alg_poly.specs.Poly.{Polynomial};
+    ghost use Rattle.alg_mono.specs.NumberedPolynomials.{Polynomial};
     ghost use Rattle.alg_horner.specs.Maps.{map_of, IsSound};
     ghost use Rattle.alg_horner.specs.Trees.{form_of};
 
@@ -103,6 +107,15 @@ impl HornerPoly {
         })
     }
 
+    /// The canonical form of the polynomial: the only one, as the law `equal_maps` has it.
+    pub fn form(&self) -> &Horner
+        ensures canonical { IsSound (form_of result.now) }
+        ensures map { map_of 0 (form_of result.now) ≡ self.now }
+        ensures sound { IsPoly nat_cmp self.now }
+    {
+        &self.form
+    }
+
     /// Whether two polynomials are equal. It takes no memory.
     pub fn same(&self, other: &HornerPoly) -> bool
         ensures { IsTrue result ↔ (self.now ≡ other.now) }
@@ -162,9 +175,8 @@ impl HornerPoly {
         if self.size() + other.size() > GREATEST_NORM {
             return Err(Overrun::Range);
         }
-        let p = horner::copy(alloc, &self.form)?;
-        let q = horner::copy(alloc, &other.form)?;
-        let form = add::add(alloc, 0, Box::into_inner(p), 0, Box::into_inner(q))?;
+        let total = horner::copy(alloc, &self.form)?;
+        let form = add_multiple(alloc, total, 1, &other.form)?;
         Ok(HornerPoly {
             form: Box::into_inner(form),
         })
@@ -181,9 +193,8 @@ impl HornerPoly {
         if self.size() + other.size() > GREATEST_NORM {
             return Err(Overrun::Range);
         }
-        let p = horner::copy(alloc, &self.form)?;
-        let q = multiple(alloc, -1, 0, &other.form)?;
-        let form = add::add(alloc, 0, Box::into_inner(p), 0, Box::into_inner(q))?;
+        let total = horner::copy(alloc, &self.form)?;
+        let form = add_multiple(alloc, total, -1, &other.form)?;
         Ok(HornerPoly {
             form: Box::into_inner(form),
         })
@@ -243,7 +254,9 @@ impl HornerPoly {
     pub fn terms(&self, alloc: Global) -> Result<Vec<(Mono, i128)>, NoMemory>
         ensures { IfOk result (λ v. v.items ≡ self.now) }
     {
-        let poly = to_poly(alloc, 0, &self.form)?;
-        copies(alloc, poly.terms())
+        let one = Mono::one(alloc);
+        let mut terms = Vec::new(alloc);
+        push_terms(alloc, &mut terms, &one, 0, &self.form)?;
+        collected(alloc, &terms)
     }
 }

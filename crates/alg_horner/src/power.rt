@@ -3,7 +3,7 @@
 ghost use Rattle.std.specs.Prelude.{◌≡◌, ◌≢◌, ◌*◌, ◌≤◌, ◌<◌, ◌^◌, IfOk, pos};
 ghost use Rattle.alg_mono.specs.Monomials.{MAX_DEGREE};
 ghost use Rattle.alg_mono.specs.Polynomials.{MAX};
-ghost use Rattle.alg_poly.specs.Poly.{power_of};
+ghost use Rattle.alg_mono.specs.NumberedPolynomials.{power_of};
 ghost use Rattle.alg_horner.specs.Form.{Form, height, weight};
 ghost use Rattle.alg_horner.specs.Maps.{map_of, IsSound};
 ghost use Rattle.alg_horner.specs.Trees.{form_of};

@@ -10,7 +10,7 @@ ghost use Rattle.alg_horner.specs.Trees.{form_of};
 use crate::NoMemory;
 use crate::accumulate::add_multiple;
 use crate::build::{is_zero, place, put, skip};
-use crate::horner::{Horner, boxed};
+use crate::horner::{Horner, boxed, filled};
 use std::alloc::Global;
 use std::cmp::Ordering;
 use std::mem;
@@ -51,9 +51,7 @@ fn after_some(slot: Box<Horner>, l: u32, m: u32, rest: Box<Horner>) -> Box<Horne
     if m == l {
         return rest;
     }
-    let mut slot = slot;
-    *slot = Horner::Skip(l - m, rest);
-    slot
+    filled(slot, Horner::Skip(l - m, rest))
 }
 
 /// `total + p*q`, where `p` has `j` and `q` has `k` atoms skipped.
@@ -159,8 +157,8 @@ fn add_product_later(
     match mem::replace(&mut *slot, Horner::Const(0)) {
         Horner::Const(e) => {
             let m = j.min(k);
-            *slot = Horner::Const(e);
-            let sum = add_product(alloc, slot, j - m, p, k - m, q)?;
+            let rest = filled(slot, Horner::Const(e));
+            let sum = add_product(alloc, rest, j - m, p, k - m, q)?;
             skip(alloc, m, sum)
         }
         Horner::Skip(l, rest) => {
@@ -216,8 +214,8 @@ fn add_product_raised(
     let mut slot = total;
     match mem::replace(&mut *slot, Horner::Const(0)) {
         Horner::Const(e) => {
-            *slot = Horner::Const(e);
-            product_before(alloc, slot, h, j, p, k, q)
+            let rest = filled(slot, Horner::Const(e));
+            product_before(alloc, rest, h, j, p, k, q)
         }
         Horner::Skip(l, rest) => {
             let rest = after_some(slot, l, 1, rest);
