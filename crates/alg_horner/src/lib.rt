@@ -4,12 +4,15 @@
 mod accumulate;
 mod add;
 mod build;
+mod form;
 mod horner;
 pub mod laws;
 mod measure;
 mod poly;
 mod power;
+mod product;
 mod scale;
+mod sum;
 mod terms;
 #[cfg(test)]
 mod tests;
