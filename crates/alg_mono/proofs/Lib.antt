@@ -25,3 +25,4 @@ pub mod Insertion
 pub mod TermOrder
 pub mod Rows
 pub mod Powers
+pub mod TermBounds

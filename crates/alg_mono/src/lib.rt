@@ -9,6 +9,7 @@ pub mod laws;
 mod mono;
 mod order;
 mod search;
+pub mod terms;
 mod times;
 
 pub use ends::{MonoEnd, Overrun};

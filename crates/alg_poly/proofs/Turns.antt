@@ -6,21 +6,10 @@ use mir.Syntax.{w128}
 use Rattle.std.specs.Int.RustNames.{unsigned_abs, FitsSigned}
 use Rattle.std.proofs.lemmas.Int.{fits_signed_mul}
 use Rattle.std.proofs.lemmas.List.{take_more}
-use Rattle.std.proofs.lemmas.List.Sums.{get_or-le-sum_by}
 use Rattle.alg_mono.specs.Polynomials.{MAX, norm, poly_neg}
 use Rattle.alg_mono.specs.Mono.{Monomial}
 use Rattle.alg_mono.specs.NumberedPolynomials.{Polynomial}
-
--- a coefficient's magnitude is at most the norm
-pub coefficient_small : (p : Polynomial) (i : ℕ) (x : Monomial × ℤ) → i < length p → x ≡ get_or p i x →
-    unsigned_abs x.1 ≤ norm p
-coefficient_small p i x h e =
-    subst (λ (z : Monomial × ℤ). unsigned_abs z.1 ≤ norm p) (sym e)
-    (get_or-le-sum_by (λ (z : Monomial × ℤ). unsigned_abs z.1) p i x h)
-
-pub both_fit : (a b : Polynomial) (i j : ℕ) (x y : Monomial × ℤ) → i < length a → j < length b →
-    x ≡ get_or a i x → y ≡ get_or b j y → norm a + norm b ≤ MAX → unsigned_abs x.1 + unsigned_abs y.1 ≤ MAX
-both_fit a b i j x y h k e f m = omega (arith, coefficient_small a i x h e, coefficient_small b j y k f)
+use Rattle.alg_mono.proofs.TermBounds.{coefficient_small}
 
 poly_neg-append : (p : Polynomial) (x : Monomial × ℤ) → poly_neg (p ++ x ∷ []) ≡ poly_neg p ++ (x.0, neg_ℤ x.1) ∷ []
 poly_neg-append [] x = refl

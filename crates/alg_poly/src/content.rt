@@ -8,7 +8,7 @@ ghost use Rattle.alg_poly.specs.Divisors.{IsContent, IsDivisible, DividesEach, t
 
 use crate::NoMemory;
 use crate::poly::Poly;
-use crate::terms::Term;
+use alg_mono::terms::Term;
 use std::alloc::Global;
 
 /// The greatest common divisor, by Euclid's steps.

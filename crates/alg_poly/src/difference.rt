@@ -7,7 +7,7 @@ ghost use Rattle.alg_mono.specs.Numbers.{integers};
 ghost use Rattle.alg_mono.specs.NumberedPolynomials.{before, coefficient_of, lead_of, IsLead, DifferFirst};
 
 use crate::poly::Poly;
-use crate::terms::Term;
+use alg_mono::terms::Term;
 use alg_mono::Mono;
 use std::cmp::Ordering;
 

@@ -8,7 +8,8 @@ ghost use Rattle.alg_mono.specs.Polynomials.{IsPoly, MAX, norm, poly_degree};
 ghost use Rattle.alg_mono.specs.NumberedPolynomials.{atom_of, term_of};
 
 use crate::NoMemory;
-use crate::terms::{Term, norm_of, push_copies};
+use crate::terms::norm_of;
+use alg_mono::terms::{Term, push_copies};
 use alg_mono::{Mono, MonoEnd};
 use std::alloc::Global;
 use std::marker::Model;

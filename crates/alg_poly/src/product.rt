@@ -12,7 +12,8 @@ ghost use Rattle.alg_mono.specs.NumberedPolynomials.{row_of, product_of, power_o
 
 use crate::NoMemory;
 use crate::poly::{GREATEST_DEGREE, GREATEST_NORM, Poly};
-use crate::terms::{Term, merge, norm_of};
+use crate::terms::norm_of;
+use alg_mono::terms::{Term, merge};
 use alg_mono::{Mono, MonoEnd, Overrun};
 use std::alloc::Global;
 

@@ -8,7 +8,8 @@ ghost use Rattle.alg_mono.specs.NumberedPolynomials.{sum_of, difference_of};
 
 use crate::NoMemory;
 use crate::poly::{GREATEST_NORM, Poly};
-use crate::terms::{merge, norm_of, opposites};
+use crate::terms::{norm_of, opposites};
+use alg_mono::terms::merge;
 use alg_mono::Overrun;
 use std::alloc::Global;
 

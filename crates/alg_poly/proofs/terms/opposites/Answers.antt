@@ -6,7 +6,8 @@ use mir.Val.{SFits}
 use Rattle.std.proofs.lemmas.Int.{ints, to_z-of_z}
 use Rattle.alg_mono.specs.Polynomials.{MAX}
 use Rattle.alg_mono.specs.Mono.{Monomial}
-use Rattle.alg_poly.proofs.Turns.{coefficient_small, poly_neg-more}
+use Rattle.alg_mono.proofs.TermBounds.{coefficient_small}
+use Rattle.alg_poly.proofs.Turns.{poly_neg-more}
 use Rattle.alg_poly.proofs.terms.opposites.Goals as goal
 
 pub loop-term-preserved : goal.loop-term-preserved

@@ -3,9 +3,9 @@ use Rattle.std.specs.Ordering.{ordering_reverse}
 use Rattle.alg_mono.proofs.MergeTurns.{takes_first, takes_second, takes_both, left_over, right_over, take_rest}
 use Rattle.alg_mono.proofs.Numbers.{integer_laws}
 use Rattle.alg_mono.proofs.TermOrder.{before_total, before_anti}
-use Rattle.alg_poly.proofs.Turns.{both_fit}
-use Rattle.alg_poly.proofs.terms.merge.Goals as goal
-use Rattle.alg_poly.proofs.terms.merge.Goals.{then-loop-i-test+else-j-b, else-loop-i-test}
+use Rattle.alg_mono.proofs.TermBounds.{both_fit}
+use Rattle.alg_mono.proofs.terms.merge.Goals as goal
+use Rattle.alg_mono.proofs.terms.merge.Goals.{then-loop-i-test+else-j-b, else-loop-i-test}
 
 pub loop-i-preserved-in-Greater : goal.loop-i-preserved-in-Greater
 loop-i-preserved-in-Greater c =

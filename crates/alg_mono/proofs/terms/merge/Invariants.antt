@@ -1,6 +1,6 @@
 use Rattle.std.proofs.Common.{◌≡◌, ◌≤◌, ◌-◌, ◌+◌, length, drop, ◌++◌}
 use Rattle.alg_mono.specs.NumberedPolynomials.{sum_of}
-use Rattle.alg_poly.proofs.terms.merge.Given as goal
+use Rattle.alg_mono.proofs.terms.merge.Given as goal
 
 abbrev pub invariant-loop-i : goal.invariant-loop-i
 invariant-loop-i l = record {

@@ -1,0 +1,12 @@
+pub mod Ring
+pub mod Sums
+pub mod Heads
+pub mod Coefficients
+pub mod Unique
+pub mod Products
+pub mod Measures
+pub mod Polynomials
+pub mod Powers
+pub mod Accumulated
+pub mod AddedProducts
+pub mod Listed
