@@ -40,8 +40,10 @@ acc_weight g i c x y w t q e f a b is_t is_q head rest is =
 
 -- a multiple that is added to 0
 pub acc_none : (s : ℕ) (c : ℤ) (t q r : Form) → t ≡ Form.Const (pos 0) →
-    map_of s r ≡ product (constant c) (map_of (s + 0) q) → map_of s r ≡ sum (map_of s t) (product (constant c) (map_of s q))
+    map_of s r ≡ product (constant c) (map_of (s + 0) q) → map_of s r
+    ≡ sum (map_of s t) (product (constant c) (map_of s q))
 acc_none s c t q r none is =
     let m = product (constant c) (map_of s q) in
     is ∙ ap (product (constant c)) (at (s + 0) s q (omega arith))
-    ∙ sym (ap (λ f. sum (map_of s f) m) none ∙ zero_sum m (Is-product (constant c) (map_of s q) (Is-constant c) (Is-map s q)))
+    ∙ sym (ap (λ f. sum (map_of s f) m) none ∙ zero_sum m (Is-product (constant c) (map_of s q) (Is-constant c)
+    (Is-map s q)))
