@@ -5,7 +5,7 @@ use Rattle.std.specs.Int.RustNames.{unsigned_abs}
 use Rattle.alg_mono.specs.NumberedPolynomials.{Polynomial}
 use Rattle.alg_horner.specs.Form.{Form, weight}
 use Rattle.alg_horner.specs.Maps.{sum, product, constant, power, map_of, placed}
-use Rattle.alg_horner.proofs.Ring.{sum_comm, sum_assoc, product_assoc, product_comm, product_sum, sum_product, zero_sum, constant-sum, constant-product, Is-product, Is-map, Is-power}
+use Rattle.alg_horner.proofs.Ring.{sum_comm, sum_assoc, product_assoc, product_comm, product_sum, sum_product, zero_sum, constant-sum, constant-product, Is-product, Is-map, Is-constant}
 use Rattle.alg_horner.proofs.Sums.{placed_both, at}
 use Rattle.alg_horner.proofs.Products.{scaled_placed}
 
@@ -37,3 +37,13 @@ acc_weight g i c x y w t q e f a b is_t is_q head rest is =
   where
     split : (c a b : ℕ) → c * (a + b) ≡ c * a + c * b
     split c a b = omega arith
+
+-- a multiple that is added to 0
+pub acc_none : (s : ℕ) (c : ℤ) (t q r : Form) → t ≡ Form.Const (pos 0) →
+    map_of s r ≡ product (constant c) (map_of (s + 0) q) → map_of s r
+    ≡ sum (map_of s t) (product (constant c) (map_of s q))
+acc_none s c t q r none is =
+    let m = product (constant c) (map_of s q) in
+    is ∙ ap (product (constant c)) (at (s + 0) s q (omega arith))
+    ∙ sym (ap (λ f. sum (map_of s f) m) none ∙ zero_sum m (Is-product (constant c) (map_of s q) (Is-constant c)
+    (Is-map s q)))

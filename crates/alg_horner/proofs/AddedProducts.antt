@@ -24,7 +24,8 @@ pub from_none : (s n m : ℕ) (z u p q : Form) → z ≡ Form.Const (pos 0) →
     map_of s u ≡ sum (map_of s z) (product (map_of n p) (map_of m q)) → map_of s u ≡ product (map_of n p) (map_of m q)
 from_none s n m z u p q e h =
     let more = product (map_of n p) (map_of m q) in
-    h ∙ ap (λ f. sum (map_of s f) more) e ∙ zero_sum more (Is-product (map_of n p) (map_of m q) (Is-map n p) (Is-map m q))
+    h ∙ ap (λ f. sum (map_of s f) more) e ∙ zero_sum more (Is-product (map_of n p) (map_of m q) (Is-map n p)
+    (Is-map m q))
 
 -- p times the rest of q, and p times its head, raised
 pub added_right : (s j k h : ℕ) (t u r p q c d : Form) → k ≡ 0 → q ≡ Form.Mix c h d →
@@ -137,7 +138,8 @@ before_is s j k h t r z u p q none head made =
 pub number_fits : (d : ℤ) (w bound : ℕ) (p q : Form) → q ≡ Form.Const d → w + weight p * weight q ≤ bound →
     w + unsigned_abs d * weight p ≤ bound
 number_fits d w bound p q is h =
-    let g : w + weight p * unsigned_abs d ≤ bound = subst (λ (f : Form). w + weight p * weight f ≤ bound) is h in omega arith
+    let g : w + weight p * unsigned_abs d ≤ bound = subst (λ (f : Form). w + weight p * weight f ≤ bound) is h in
+    omega arith
 
 pub weight_right : (h w u r : ℕ) (c d p q : Form) → q ≡ Form.Mix c h d → u ≤ w + weight p * weight d →
     r ≤ u + weight p * weight c → r ≤ w + weight p * weight q

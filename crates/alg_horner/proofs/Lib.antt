@@ -1,3 +1,4 @@
+pub mod Sizes
 pub mod Ring
 pub mod Sums
 pub mod Heads

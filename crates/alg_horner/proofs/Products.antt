@@ -42,7 +42,8 @@ scaled_head c d x f g h e is_f is_g some =
 pub scaled_number : (s : ℕ) (c d x : ℤ) (f g : Form) → x ≡ c *ℤ d → f ≡ Form.Const d → g ≡ Form.Const x →
     map_of s g ≡ product (constant c) (map_of s f)
 scaled_number s c d x f g e is_f is_g =
-    ap (map_of s) (is_g ∙ ap Form.Const e) ∙ sym (ap (λ h. product (constant c) (map_of s h)) is_f ∙ constant-product c d)
+    ap (map_of s) (is_g ∙ ap Form.Const e) ∙ sym (ap (λ h. product (constant c) (map_of s h)) is_f
+    ∙ constant-product c d)
 
 pub scaled_mix : (s i : ℕ) (c : ℤ) (f g p q u v : Form) → f ≡ Form.Mix p i q → g ≡ Form.Mix u i v →
     map_of s u ≡ product (constant c) (map_of s p) → map_of (s + 1) v ≡ product (constant c) (map_of (s + 1) q) →

@@ -22,7 +22,8 @@ sum_numbers s t c d p q e f = sym ((λ i. sum (map_of s (e i)) (map_of t (f i)))
 pub placed_sum : (t i : ℕ) (a b q : Polynomial) → placed t i a (sum b q) ≡ sum (placed t i a b) q
 placed_sum t i a b q = sym (sum_assoc (product a (power t i)) b q)
 
-pub placed_both : (t i : ℕ) (a b c d : Polynomial) → placed t i (sum a c) (sum b d) ≡ sum (placed t i a b) (placed t i c d)
+pub placed_both : (t i : ℕ) (a b c d : Polynomial) → placed t i (sum a c) (sum b d)
+    ≡ sum (placed t i a b) (placed t i c d)
 placed_both t i a b c d =
     let w = power t i in
     ap (λ x. sum x (sum b d)) (sum_product a c w) ∙ sum_assoc (product a w) (product c w) (sum b d)
@@ -57,7 +58,8 @@ sum_both j k i h a b c d f r p q atoms exponents is_p is_q head rest s =
     let t = s + j in
     (λ n. placed t i
     ((head t ∙ (λ m. sum (at (t + 0) t a (omega arith) m) (at (t + 0) t c (omega arith) m))) n)
-    ((rest (t + 1) ∙ (λ m. sum (at (t + 1 + 0) (t + 1) b (omega arith) m) (at (t + 1 + 0) (t + 1) d (omega arith) m))) n))
+    ((rest (t + 1)
+    ∙ (λ m. sum (at (t + 1 + 0) (t + 1) b (omega arith) m) (at (t + 1 + 0) (t + 1) d (omega arith) m))) n))
     ∙ placed_both t i (map_of t a) (map_of (t + 1) b) (map_of t c) (map_of (t + 1) d)
     ∙ (λ n. sum (map_of t (sym is_p n)) (map_of (s + atoms n) (Form.Mix c (exponents n) d)))
     ∙ ap (λ g. sum (map_of t p) (map_of (s + k) g)) (sym is_q)
@@ -68,7 +70,8 @@ higher : (t g i : ℕ) (c d : Polynomial) → Is c →
 higher t g i c d is =
     ap (λ x. sum x d)
     (ap (λ x. product x (power t i))
-    (sum_comm (product c (power t g)) (constant (pos 0)) ∙ zero_sum (product c (power t g)) (Is-product c (power t g) is (Is-power t g)))
+    (sum_comm (product c (power t g)) (constant (pos 0)) ∙ zero_sum (product c (power t g)) (Is-product c
+    (power t g) is (Is-power t g)))
     ∙ product_assoc c (power t g) (power t i) ∙ ap (product c) (power-add t g i))
 
 pub higher_map : (t g i n : ℕ) (c d : Form) → g + i ≡ n →

@@ -10,7 +10,7 @@ ghost use Rattle.alg_horner.specs.Trees.{form_of};
 
 use crate::NoMemory;
 use crate::add::{add, add_numbers};
-use crate::build::put;
+use crate::build::{is_zero, put};
 use crate::horner::Horner;
 use crate::scale::{multiple, multiply_numbers};
 use std::alloc::Global;
@@ -44,6 +44,9 @@ fn add_copy(alloc: Global, total: Horner, c: i128, q: &Horner) -> Result<Box<Hor
         ≤ weight (form_of total) + unsigned_abs c * weight (form_of q.now)) }
 {
     let more = multiple(alloc, c, 0, q)?;
+    if is_zero(&total) {
+        return Ok(more);
+    }
     add(alloc, 0, total, 0, Box::into_inner(more))
 }
 

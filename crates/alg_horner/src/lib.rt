@@ -1,4 +1,9 @@
-//! Polynomials with integer coefficients as sparse Horner forms.
+//! Polynomials with integer coefficients over numbered atoms, as sparse Horner forms.
+//!
+//! A [`HornerPoly`] is one tree, its canonical [`Horner`] form, so that equal polynomials have equal
+//! forms ([`laws::equal_maps`]). It has the limits of `alg_mono`'s polynomials, and a refusal comes
+//! before anything is made: `Range` where the bound on the norm is too great, else `Degree`.
+//! What a form is stands in `specs/Form.antt`, its polynomial in `specs/Maps.antt`.
 #![tactic(auto)]
 
 mod accumulate;

@@ -9,11 +9,11 @@ ghost use Rattle.alg_mono.specs.NumberedPolynomials.{atom_of, term_of};
 ghost use Rattle.alg_horner.specs.Maps.{map_of, IsSound};
 ghost use Rattle.alg_horner.specs.Trees.{form_of};
 
+use crate::NoMemory;
 use crate::build::is_zero;
 use crate::horner::{self, Horner, boxed};
 use crate::measure::{height, weight};
 use crate::terms::{collected, push_terms};
-use crate::NoMemory;
 use alg_mono::Mono;
 use std::alloc::Global;
 use std::marker::Model;
@@ -128,9 +128,10 @@ impl HornerPoly {
         height(&self.form)
     }
 
-    /// The terms, the greatest monomial first.
+    /// The terms, the greatest monomial first, by sums of halves.
     pub fn terms(&self, alloc: Global) -> Result<Vec<(Mono, i128)>, NoMemory>
-        ensures { IfOk result (λ v. v.items ≡ self.now) }
+        ensures all { IfOk result (λ v. v.items ≡ self.now) }
+        ensures sound { IsPoly nat_cmp self.now }
     {
         let one = Mono::one(alloc);
         let mut terms = Vec::new(alloc);

@@ -39,7 +39,11 @@ impl HornerPoly {
     }
 
     // The difference, in the boxes of `self`.
-    pub(crate) fn difference(self, alloc: Global, other: &HornerPoly) -> Result<HornerPoly, NoMemory>
+    pub(crate) fn difference(
+        self,
+        alloc: Global,
+        other: &HornerPoly,
+    ) -> Result<HornerPoly, NoMemory>
         requires { norm self + norm other.now ≤ MAX }
         ensures { IfOk result (λ p. p ≡ difference_of self other.now) }
     {

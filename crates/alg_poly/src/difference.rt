@@ -7,8 +7,8 @@ ghost use Rattle.alg_mono.specs.Numbers.{integers};
 ghost use Rattle.alg_mono.specs.NumberedPolynomials.{before, coefficient_of, lead_of, IsLead, DifferFirst};
 
 use crate::poly::Poly;
-use alg_mono::terms::Term;
 use alg_mono::Mono;
+use alg_mono::terms::Term;
 use std::cmp::Ordering;
 
 /// The coefficient of the term with this monomial, and 0 where there is none.

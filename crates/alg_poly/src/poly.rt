@@ -76,6 +76,15 @@ impl Poly {
         Ok(Poly { terms })
     }
 
+    /// The polynomial with these terms: the monomials fall in grevlex, no coefficient is 0, and the
+    /// norm and the degree are within the limits. It takes no memory.
+    pub fn from_terms(terms: Vec<Term>) -> Poly
+        requires { IsPoly nat_cmp terms.items }
+        ensures { result ≡ terms.items }
+    {
+        Poly { terms }
+    }
+
     /// The terms, the greatest monomial first. It takes no memory.
     pub fn terms(&self) -> &[(Mono, i128)]
         ensures all { result.now ≡ self.now }

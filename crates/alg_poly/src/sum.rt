@@ -9,8 +9,8 @@ ghost use Rattle.alg_mono.specs.NumberedPolynomials.{sum_of, difference_of};
 use crate::NoMemory;
 use crate::poly::{GREATEST_NORM, Poly};
 use crate::terms::{norm_of, opposites};
-use alg_mono::terms::merge;
 use alg_mono::Overrun;
+use alg_mono::terms::merge;
 use std::alloc::Global;
 
 impl Poly {

@@ -39,14 +39,16 @@ fn answer_one(alloc: Global, file: &File, goal: &Goal) -> Result<Answer, NoMemor
     alg_reify::laws::no_is_over_the_table();
     alg_reify::laws::no_is_within_range();
     match decide_ring(alloc, file, &goal.equation) {
-        Ok(RingAnswer::Proved) => Ok(Answer::Proved {
-            conditions: Seq::from_vec(Vec::new(alloc)),
-        }),
-        Ok(RingAnswer::No { at, left, right }) => {
-            // Its contract says that the monomial is canonical.
-            at.pairs();
-            Ok(Answer::No { at, left, right })
-        }
+        Ok(decision) => match decision.answer {
+            RingAnswer::Proved => Ok(Answer::Proved {
+                conditions: Seq::from_vec(Vec::new(alloc)),
+            }),
+            RingAnswer::No { at, left, right } => {
+                // Its contract says that the monomial is canonical.
+                at.pairs();
+                Ok(Answer::No { at, left, right })
+            }
+        },
         Err(Stop::Atoms) => Ok(Answer::Atoms),
         Err(Stop::Range) => Ok(Answer::Range),
         Err(Stop::Degree) => Ok(Answer::Degree),

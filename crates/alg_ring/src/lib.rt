@@ -9,5 +9,7 @@ pub mod laws;
 #[cfg(test)]
 mod tests;
 
+pub use alg_horner::HornerPoly;
+pub use alg_poly::Poly;
 pub use alg_reify::{Mono, NoMemory, Stop};
-pub use decide::{RingAnswer, decide_ring};
+pub use decide::{RingAnswer, RingDecision, decide_ring, to_poly};

@@ -6,7 +6,7 @@ ghost use Rattle.alg_terms.specs.Limits.{MAX_EXPONENT};
 ghost use Rattle.alg_reify.specs.Tried.{tried};
 
 use crate::laws::proved_is_right;
-use crate::{NoMemory, RingAnswer, Stop, decide_ring};
+use crate::{NoMemory, RingAnswer, RingDecision, Stop, decide_ring};
 use alg_terms::{Equation, File, Kind, Name, Seq, Sort, Statement, Term, VarDecl};
 use alg_universe::Rats;
 use sqlite_items::Boxed;
@@ -75,8 +75,8 @@ fn equation(
 }
 
 // The degree of the monomial and the two coefficients of an answer No.
-fn told(answer: RingAnswer) -> Option<(u32, i128, i128)> {
-    match answer {
+fn told(decision: RingDecision) -> Option<(u32, i128, i128)> {
+    match decision.answer {
         RingAnswer::Proved => None,
         RingAnswer::No { at, left, right } => Some((at.degree(), left, right)),
     }
@@ -99,8 +99,8 @@ fn an_equation_is_proved_or_refuted_within_the_limits(rt: HostRuntime) -> Result
         (2, 1000, 0, 0, Err(Stop::Range)),
     ] {
         let goal = equation(rt.alloc(), &file, k, n, c, d)?;
-        let answer = decide_ring(rt.alloc(), &file, &goal);
-        assert_eq!(rt; answer.map(told), want, "k {k}, n {n}, c {c}, d {d}");
+        let decision = decide_ring(rt.alloc(), &file, &goal);
+        assert_eq!(rt; decision.map(told), want, "k {k}, n {n}, c {c}, d {d}");
     }
     Ok(())
 }

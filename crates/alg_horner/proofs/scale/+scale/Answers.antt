@@ -20,8 +20,10 @@ returns-in-Const-clause-head t c =
     let fr : SFits w128 result = search rules in
     let is : result ≡ c.args.c *ℤ d = simp to_z-of_z at c.multiply_numbers.ensures.product in
     let made = simp to_z-of_z at c.boxed.ensures in
-    IfOk-weaker c.boxed.result (λ r. r.value ≡ Const result) (λ r. IsHead (form_of c.args.form.now) → IsHead (form_of r.value))
-    (λ r e. scaled_head c.args.c d result (form_of c.args.form.now) (form_of r.value) c.requires.some is (ap form_of c.in-Const.is) (ap form_of e)) made
+    IfOk-weaker c.boxed.result (λ r. r.value ≡ Const result) (λ r. IsHead (form_of c.args.form.now) →
+    IsHead (form_of r.value))
+    (λ r e. scaled_head c.args.c d result (form_of c.args.form.now) (form_of r.value) c.requires.some is
+    (ap form_of c.in-Const.is) (ap form_of e)) made
 
 pub returns-in-Const-clause-some : goal.returns-in-Const-clause-some
 returns-in-Const-clause-some t c =
@@ -32,8 +34,10 @@ returns-in-Const-clause-some t c =
     let fr : SFits w128 result = search rules in
     let is : result ≡ c.args.c *ℤ d = simp to_z-of_z at c.multiply_numbers.ensures.product in
     let made = simp to_z-of_z at c.boxed.ensures in
-    IfOk-weaker c.boxed.result (λ r. r.value ≡ Const result) (λ r. IsSome (form_of c.args.form.now) → IsSome (form_of r.value))
-    (λ r e. scaled_some c.args.c d result (form_of c.args.form.now) (form_of r.value) c.requires.some is (ap form_of c.in-Const.is) (ap form_of e)) made
+    IfOk-weaker c.boxed.result (λ r. r.value ≡ Const result) (λ r. IsSome (form_of c.args.form.now) →
+    IsSome (form_of r.value))
+    (λ r e. scaled_some c.args.c d result (form_of c.args.form.now) (form_of r.value) c.requires.some is
+    (ap form_of c.in-Const.is) (ap form_of e)) made
 
 pub returns-in-Const-clause-map : goal.returns-in-Const-clause-map
 returns-in-Const-clause-map t c =
@@ -44,8 +48,10 @@ returns-in-Const-clause-map t c =
     let fr : SFits w128 result = search rules in
     let is : result ≡ c.args.c *ℤ d = simp to_z-of_z at c.multiply_numbers.ensures.product in
     let made = simp to_z-of_z at c.boxed.ensures in
-    IfOk-weaker c.boxed.result (λ r. r.value ≡ Const result) (λ r. (s : ℕ) → map_of s (form_of r.value) ≡ product (constant c.args.c) (map_of s (form_of c.args.form.now)))
-    (λ r e. λ s. scaled_number s c.args.c d result (form_of c.args.form.now) (form_of r.value) is (ap form_of c.in-Const.is) (ap form_of e)) made
+    IfOk-weaker c.boxed.result (λ r. r.value ≡ Const result) (λ r. (s : ℕ) →
+        map_of s (form_of r.value) ≡ product (constant c.args.c) (map_of s (form_of c.args.form.now)))
+    (λ r e. λ s. scaled_number s c.args.c d result (form_of c.args.form.now) (form_of r.value) is
+    (ap form_of c.in-Const.is) (ap form_of e)) made
 
 pub returns-in_ok-q-in-Mix-clause-map : goal.returns-in_ok-q-in-Mix-clause-map
 returns-in_ok-q-in-Mix-clause-map t c =
@@ -56,8 +62,10 @@ returns-in_ok-q-in-Mix-clause-map t c =
     let v = c.in_ok-q-in-Mix.q in
     let head = simp to_z-of_z at c.in_ok-p-in-Mix.ensures.map in
     let rest = simp to_z-of_z at c.in_ok-q-in-Mix.ensures.map in
-    IfOk-weaker c.boxed-in-Mix.result (λ r. r.value ≡ Mix u c.in-Mix.i v) (λ r. (s : ℕ) → map_of s (form_of r.value) ≡ product (constant c.args.c) (map_of s (form_of c.args.form.now)))
-    (λ r e. λ s. scaled_mix s c.in-Mix.i c.args.c (form_of c.args.form.now) (form_of r.value) p q (form_of u.value) (form_of v.value) (ap form_of c.in-Mix.is) (ap form_of e)
+    IfOk-weaker c.boxed-in-Mix.result (λ r. r.value ≡ Mix u c.in-Mix.i v) (λ r. (s : ℕ) →
+        map_of s (form_of r.value) ≡ product (constant c.args.c) (map_of s (form_of c.args.form.now)))
+    (λ r e. λ s. scaled_mix s c.in-Mix.i c.args.c (form_of c.args.form.now) (form_of r.value) p q (form_of u.value)
+    (form_of v.value) (ap form_of c.in-Mix.is) (ap form_of e)
     (head s ∙ ap (λ f. product (constant c.args.c) (map_of s (form_of f))) c.deref-in-Mix.ensures)
     (rest (s + 1) ∙ ap (λ f. product (constant c.args.c) (map_of (s + 1) (form_of f))) c.deref-in-Mix-2.ensures))
     c.boxed-in-Mix.ensures
@@ -71,8 +79,10 @@ returns-in_ok-q-in-Mix-clause-weight t c =
     let v = c.in_ok-q-in-Mix.q in
     let head = simp to_z-of_z at c.in_ok-p-in-Mix.ensures.weight in
     let rest = simp to_z-of_z at c.in_ok-q-in-Mix.ensures.weight in
-    IfOk-weaker c.boxed-in-Mix.result (λ r. r.value ≡ Mix u c.in-Mix.i v) (λ r. weight (form_of r.value) ≡ unsigned_abs c.args.c * weight (form_of c.args.form.now))
-    (λ r e. scaled_weight c.in-Mix.i (unsigned_abs c.args.c) (form_of c.args.form.now) (form_of r.value) p q (form_of u.value) (form_of v.value) (ap form_of c.in-Mix.is) (ap form_of e)
+    IfOk-weaker c.boxed-in-Mix.result (λ r. r.value ≡ Mix u c.in-Mix.i v) (λ r. weight (form_of r.value)
+    ≡ unsigned_abs c.args.c * weight (form_of c.args.form.now))
+    (λ r e. scaled_weight c.in-Mix.i (unsigned_abs c.args.c) (form_of c.args.form.now) (form_of r.value) p q
+    (form_of u.value) (form_of v.value) (ap form_of c.in-Mix.is) (ap form_of e)
     (head ∙ ap (λ f. unsigned_abs c.args.c * weight (form_of f)) c.deref-in-Mix.ensures)
     (rest ∙ ap (λ f. unsigned_abs c.args.c * weight (form_of f)) c.deref-in-Mix-2.ensures))
     c.boxed-in-Mix.ensures

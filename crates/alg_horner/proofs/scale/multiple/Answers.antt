@@ -14,7 +14,8 @@ returns-then-c-eq0-clause-map c =
     let fits : SFits w128 c.args.c = search rules in
     let none : c.args.c ≡ pos 0 = sym (to_z-of_z w128 c.args.c fits) ∙ ap (to_z w128) c.if-c-eq0.true in
     IfOk-weaker c.boxed.result (λ r. r.value ≡ Const (pos 0))
-    (λ r. (s : ℕ) → map_of s (form_of r.value) ≡ product (constant c.args.c) (map_of (s + c.args.j) (form_of c.args.form.now)))
+    (λ r. (s : ℕ) → map_of s (form_of r.value) ≡ product (constant c.args.c) (map_of (s + c.args.j)
+    (form_of c.args.form.now)))
     (λ r e s. ap (λ f. map_of s (form_of f)) e ∙ sym (zero_product (map_of (s + c.args.j) (form_of c.args.form.now)))
     ∙ ap (λ z. product (constant z) (map_of (s + c.args.j) (form_of c.args.form.now))) (sym none))
     c.boxed.ensures

@@ -1,6 +1,7 @@
 use Rattle.std.proofs.Common.{ℕ, ◌+◌, ◌*◌, max}
-use Rattle.alg_horner.specs.Form.{Form, size}
+use Rattle.alg_horner.specs.Form.{Form}
 use Rattle.alg_horner.specs.Trees.{form_of}
+use Rattle.alg_horner.proofs.Sizes.{size}
 use Rattle.alg_horner.proofs.times.+add_product.Given as goal
 
 -- the nodes of both factors, and then the atoms that are skipped

@@ -1,5 +1,7 @@
-use Rattle.std.proofs.Common.{List, [], All, Contains, sym, subst}
+use Rattle.std.proofs.Common.{List, [], All, Contains, sym, ap, subst, ◌∙◌}
 use Rattle.alg_terms.specs.declared.term.Atom.{Atom}
+use Rattle.alg_meaning.specs.PolynomialOf.{poly_of}
+use Rattle.alg_reify.specs.Numbered.{numbered}
 use Rattle.alg_reify.specs.Table.{leaves}
 use Rattle.alg_reify.proofs.Held.{held_left, held_right}
 use Rattle.alg_ring.proofs.Comparing.{answered}
@@ -22,6 +24,17 @@ pub returns-clause-answer : goal.returns-clause-answer
 returns-clause-answer c =
     answered c.args.file.now c.args.equation.now c.in_ok-table.ensures.small c.in_ok-left.ensures.fine
     c.in_ok-right.ensures.fine
-    c.in_ok-table.table _ _ c.in_ok-compare.field-0 c.in_ok-table.ensures.ok c.in_ok-left.ensures.ok
+    c.in_ok-table.table _ _ c.in_ok-answer.answer c.in_ok-table.ensures.ok c.in_ok-left.ensures.ok
     c.in_ok-right.ensures.ok
-    c.in_ok-compare.ensures
+    c.in_ok-answer.ensures
+
+-- the forms are over the numbers of the equation's own table
+pub returns-clause-left : goal.returns-clause-left
+returns-clause-left c =
+    c.in_ok-left.ensures.ok
+    ∙ ap (λ (atoms : List Atom). numbered atoms (poly_of c.args.equation.now.left)) c.in_ok-table.ensures.ok
+
+pub returns-clause-right : goal.returns-clause-right
+returns-clause-right c =
+    c.in_ok-right.ensures.ok
+    ∙ ap (λ (atoms : List Atom). numbered atoms (poly_of c.args.equation.now.right)) c.in_ok-table.ensures.ok
