@@ -14,7 +14,7 @@ use Rattle.std.specs.FinMap.Entries.{below_all, is_sorted}
 use Rattle.alg_mono.specs.FiniteMaps.{Each, IsCanonical, all_some}
 use Rattle.alg_mono.specs.Monomials.{degree}
 use Rattle.alg_mono.specs.Numbers.{exponents, integers, is_zero}
-use Rattle.alg_mono.specs.Polynomials.{IsPoly, norm, poly_degree}
+use Rattle.alg_mono.specs.Polynomials.{IsPoly, IsPolynomial, norm, poly_degree}
 use Rattle.alg_mono.proofs.Canonical.{both, first, second}
 use Rattle.alg_mono.proofs.Norms.{norm-cons}
 use Rattle.alg_mono.proofs.Numbers.{*ℤ_comm}
@@ -87,7 +87,7 @@ no_remainder (pos a) d h = ap pos h
 no_remainder (negsuc a) d h = ap (λ n. neg_ℤ (pos n)) h
 
 -- d times the quotient of a multiple
-exact_quotient : (a d : ℤ) → unsigned_abs d ∣ unsigned_abs a → d *ℤ int_div a d ≡ a
+pub exact_quotient : (a d : ℤ) → unsigned_abs d ∣ unsigned_abs a → d *ℤ int_div a d ≡ a
 exact_quotient a d h =
     *ℤ_comm d (int_div a d) ∙ sym (+ℤ_idr (int_div a d *ℤ d))
     ∙ ap (λ z. (int_div a d *ℤ d) +ℤ z) (sym (no_remainder a d (mod-eq-zero_of_dvd (unsigned_abs d) h)))
@@ -150,15 +150,19 @@ module _ (d : ℤ) where
       spread : (a b n : ℕ) → a * b + a * n ≡ a * (b + n)
       spread a b n = omega arith
 
+  pub IsPolynomial-from_times : (p : Polynomial) → IsPolynomial nat_cmp integers (times_number d p) →
+      IsPolynomial nat_cmp integers p
+  IsPolynomial-from_times p c = record {
+    canonical = record {
+      rises = subst T (sorted_times p) c.canonical.rises;
+      no_none = some_times p c.canonical.no_none;
+    };
+    monomials = each_times (λ m. IsCanonical nat_cmp exponents m) p c.monomials;
+  }
+
   pub IsPoly-from_times : (p : Polynomial) → pos 1 ≤ℤ d → IsPoly nat_cmp (times_number d p) → IsPoly nat_cmp p
   IsPoly-from_times p h c = record {
-    polynomial = record {
-      canonical = record {
-        rises = subst T (sorted_times p) c.polynomial.canonical.rises;
-        no_none = some_times p c.polynomial.canonical.no_none;
-      };
-      monomials = each_times (λ m. IsCanonical nat_cmp exponents m) p c.polynomial.monomials;
-    };
+    polynomial = IsPolynomial-from_times p c.polynomial;
     bounded = let b = c.bounded in omega (arith, norm_times p, grown (unsigned_abs d) (norm p) (omega (arith, ints)));
     small = let s = c.small in omega (arith, degree_times p);
   }

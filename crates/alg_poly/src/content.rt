@@ -12,7 +12,7 @@ use crate::terms::Term;
 use std::alloc::Global;
 
 /// The greatest common divisor, by Euclid's steps.
-fn greatest_divisor(a: u128, b: u128) -> u128
+pub fn greatest_divisor(a: u128, b: u128) -> u128
     ensures { IsGcd a b result }
 {
     let mut x = a;

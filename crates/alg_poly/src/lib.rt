@@ -19,4 +19,5 @@ mod terms;
 mod tests;
 
 pub use alg_mono::{Mono, MonoEnd, NoMemory, Overrun};
+pub use content::greatest_divisor;
 pub use poly::Poly;

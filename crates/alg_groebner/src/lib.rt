@@ -1,0 +1,12 @@
+//! The search for a certificate: a machine of eight rules over lines, which are combinations of the
+//! hypotheses.
+//!
+//! Its state is defined in `specs/State.antt`, its rules in `specs/Machine.antt`, and its run in
+//! `specs/Runs.antt`.
+#![tactic(auto)]
+
+mod cancel;
+mod remainder;
+
+pub use alg_mono::{Mono, NoMemory, Overrun};
+pub use alg_poly::Poly;
