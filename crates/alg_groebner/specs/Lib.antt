@@ -6,3 +6,10 @@ pub mod Choices
 pub mod Moves
 pub mod Machine
 pub mod Runs
+pub mod Sound
+pub mod Pruning
+pub mod Laws
+pub mod Work
+pub mod Working
+pub mod Workable
+pub mod Steps

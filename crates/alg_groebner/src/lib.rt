@@ -5,7 +5,13 @@
 //! `specs/Runs.antt`.
 #![tactic(auto)]
 
+mod basis;
 mod cancel;
+mod factors;
+pub mod laws;
+mod leads;
+mod machine;
+mod queue;
 mod remainder;
 
 pub use alg_mono::{Mono, NoMemory, Overrun};

@@ -30,13 +30,13 @@ pub record IsGoodStep (lines : List Polynomial) (s : GoalStep) (before : Polynom
 abbrev pub AreLines : List Polynomial → List Line → List Polynomial → Type 0
 AreLines lines [] all = all ≡ lines
 AreLines lines (l ∷ ls) all =
-    (new : Polynomial) × IsGoodLine lines l × IsLineOf lines l new × AreLines (lines ++ new ∷ []) ls all
+    (new : Polynomial) × (IsGoodLine lines l × IsLineOf lines l new) × AreLines (lines ++ new ∷ []) ls all
 
 -- the steps are good, and lead from the remainder g to h
 abbrev pub AreSteps : List Polynomial → Polynomial → List GoalStep → Polynomial → Type 0
 AreSteps lines g [] h = h ≡ g
 AreSteps lines g (s ∷ ss) h =
-    (after : Polynomial) × IsGoodStep lines s g × IsStepOf lines s g after × AreSteps lines after ss h
+    (after : Polynomial) × (IsGoodStep lines s g × IsStepOf lines s g after) × AreSteps lines after ss h
 
 pub data Acceptance : Type 0 where
   Good : Acceptance

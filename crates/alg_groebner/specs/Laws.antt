@@ -1,0 +1,27 @@
+-- Laws of the search machine.
+use Rattle.std.specs.Prelude.{◌≡◌, ℕ, ◌<◌, ◌≤◌, ◌^◌, List, length, All}
+use Rattle.std.specs.Ordering.{nat_cmp}
+use Rattle.alg_mono.specs.Numbers.{integers}
+use Rattle.alg_mono.specs.Polynomials.{IsPolynomial}
+use Rattle.alg_mono.specs.NumberedPolynomials.{Polynomial}
+use Rattle.alg_lines.specs.Accepting.{IsGood}
+use Rattle.alg_groebner.specs.Pruning.{certificate}
+use Rattle.alg_groebner.specs.State.{State, End, Proved}
+use Rattle.alg_groebner.specs.Runs.{Runs, Comes}
+use Rattle.alg_groebner.specs.Sound.{IsSound}
+
+-- a run has one end, in one state
+abbrev pub OneEnd : Type 0
+OneEnd =
+    (limit : ℕ) (st a b : State) (e f : End) → Runs limit st a e → Runs limit st b f → (a ≡ b) × (e ≡ f)
+
+-- and each run ends
+abbrev pub SomeEnd : Type 0
+SomeEnd = (limit : ℕ) (st : State) → IsSound limit st → (last : State) × (e : End) × Runs limit st last e
+
+-- the certificate of a run that came to zero is good
+abbrev pub CertificatesAreGood : Type 0
+CertificatesAreGood =
+    (hyps : List Polynomial) (g : Polynomial) (power limit : ℕ) → All (λ p. IsPolynomial nat_cmp integers p) hyps →
+    length hyps < 2 ^ 31 → power ≤ 16 → limit ≤ 1000000 →
+    (last : State) (r : ℕ) → Comes hyps g power limit last (Proved r) → IsGood hyps g (certificate last r)
