@@ -21,3 +21,6 @@ pub use alg_mono::{Mono, NoMemory, Overrun};
 pub use alg_poly::Poly;
 pub use decide::{Verdict, search};
 pub use pruning::prune;
+
+#[cfg(test)]
+mod tests;
