@@ -10,7 +10,7 @@ use Rattle.alg_lines.specs.declared.cert.Line.{Line}
 use Rattle.alg_lines.specs.declared.cert.GoalStep.{GoalStep}
 use Rattle.alg_groebner.specs.State.{State, End}
 use Rattle.alg_groebner.specs.Choices.{remainder_at}
-use Rattle.alg_groebner.specs.Pruning.{mark, mark_steps, marks_of, numbers_after, renumbered_step, kept_lines, certificate}
+use Rattle.alg_groebner.specs.Pruning.{mark, mark_steps, marks_of, numbers_after, renumbered_step, kept_lines, certificate_from, certificate}
 use Rattle.alg_groebner.specs.Runs.{Runs, now, later, Comes, runs, too_great, too_high, powers, powers_outcome, first_state}
 use Rattle.alg_groebner.specs.Sound.{IsSound}
 use Rattle.alg_groebner.specs.Laws.{CertificatesAreGood}
@@ -150,7 +150,7 @@ module _ (hyps : List Polynomial) (g : Polynomial) (limit : ℕ) where
       × AreSteps (keep bs all) start (map (renumbered_step (numbers_after 0 bs)) ss) []
 
   run_good : (first last : State) (r : ℕ) → Runs limit first last (End.Proved r) → IsSound limit first → IsFaithful hyps g first → IsGood hyps g (certificate last r)
-  unfolding certificate
+  unfolding certificate_from
   run_good first last r ran s f =
       let at_end = runs_sound limit first last (End.Proved r) ran s in
       let faith = runs_faithful hyps g limit first last (End.Proved r) ran s f in

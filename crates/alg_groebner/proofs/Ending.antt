@@ -11,7 +11,7 @@ use Rattle.alg_groebner.specs.Machine.{made, counted, by_pairs, by_inputs, by_re
 use Rattle.alg_groebner.specs.Choices.{reducer, first_reducible, zero_power}
 use Rattle.alg_groebner.specs.Moves.{next_taken}
 use Rattle.alg_groebner.specs.Runs.{Runs, now, later, powers, first_state}
-use Rattle.alg_groebner.specs.Sound.{IsThere, HasBoth, AreMembers, IsSound}
+use Rattle.alg_groebner.specs.Sound.{IsThere, HasBoth, AreMembers, step_count, IsSound}
 use Rattle.alg_groebner.proofs.Found.{same_some, none_some}
 use Rattle.alg_groebner.proofs.Keeping.{goes_kept}
 
@@ -99,6 +99,10 @@ length-powers : (g : Polynomial) (r n : ℕ) → length (powers g r n) ≡ n
 length-powers g r zero = refl
 length-powers g r (suc n) = ap suc (length-powers g (r + 1) n)
 
+no_steps : (g : Polynomial) (r n : ℕ) → step_count (powers g r n) ≡ 0
+no_steps g r zero = refl
+no_steps g r (suc n) = let e = no_steps g (r + 1) n in omega arith
+
 pub first_sound : (hyps : List Polynomial) (g : Polynomial) (power limit : ℕ) → length hyps < 2 ^ 31 → power ≤ 16 → limit ≤ 1000000 →
     IsSound limit (first_state hyps (powers g 1 power))
 first_sound hyps g power limit few small low = record {
@@ -107,6 +111,7 @@ first_sound hyps g power limit few small low = record {
   counted = omega arith;
   lines = omega arith;
   made = omega arith;
+  spent = omega (arith, no_steps g 1 power);
   taken = omega arith;
   powers = omega (arith, length-powers g 1 power);
   basis = All-nil (IsThere hyps);

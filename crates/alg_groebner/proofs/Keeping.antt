@@ -1,5 +1,5 @@
 -- Each step keeps what holds of the states, and leaves less to do.
-use Rattle.std.specs.Prelude.{◌≡◌, ◌≢◌, ℕ, ◌<◌, true, false, cond, List, [], ◌∷◌, ◌++◌, Option, Some, None, length, min, max, All}
+use Rattle.std.specs.Prelude.{◌≡◌, ◌≢◌, ℕ, ◌<◌, true, false, cond, List, [], ◌∷◌, ◌++◌, Option, Some, None, length, min, max, All, ◌+◌, slice_set, zero, suc, ◌≤◌}
 use Rattle.std.proofs.Common.{refl, sym, ap, subst, arith, inl, inr}
 use Rattle.std.specs.declared.cmp.Ordering.TheVariants.{Less, Equal, Greater}
 use Rattle.std.specs.Ordering.{match_ordering, nat_cmp}
@@ -15,14 +15,16 @@ use Rattle.alg_mono.specs.NumberedPolynomials.{Polynomial}
 use Rattle.alg_lines.specs.Lines.{line_at}
 use Rattle.alg_pairs.specs.Order.{pair_cmp}
 use Rattle.alg_pairs.specs.declared.pair.Pair.{Pair}
+use Rattle.alg_groebner.specs.Cancelling.{quotient, reduced}
 use Rattle.alg_groebner.specs.Leads.{lead, coprime}
 use Rattle.alg_groebner.specs.State.{State, End, Next, Goes, Ends}
-use Rattle.alg_groebner.specs.Choices.{pair_of, with_pair, with_pairs, reducer, first_reducible, zero_power}
-use Rattle.alg_groebner.specs.Moves.{with_line, dropped, without_pair, goal_outcome, goal_reduced, line_outcome, line_reduced, joined, next_taken, pair_outcome, pair_taken}
+use Rattle.alg_groebner.specs.Choices.{pair_of, with_pair, with_pairs, reducer, first_reducible, zero_power, remainder_at}
+use Rattle.alg_groebner.specs.Moves.{with_line, stepped, dropped, without_pair, goal_outcome, goal_reduced, line_outcome, line_reduced, joined, next_taken, pair_outcome, pair_taken}
 use Rattle.alg_groebner.specs.Machine.{made, counted, by_pairs, by_inputs, by_reducible, by_reducer, by_line, by_current, by_power, next}
-use Rattle.alg_groebner.specs.Sound.{IsThere, HasBoth, IsIn, AreMembers, IsSound}
+use Rattle.alg_groebner.specs.Sound.{IsThere, HasBoth, IsIn, AreMembers, step_count, IsSound}
 use Rattle.alg_groebner.specs.Runs.{work, current_left}
 use Rattle.alg_groebner.specs.declared.cancel.Cancelled.{Cancelled}
+use Rattle.alg_groebner.specs.declared.remainder.Remainder.{Remainder}
 use Rattle.alg_groebner.proofs.Adding.{is_less, not_less}
 use Rattle.alg_groebner.proofs.Scans.{there_number}
 
@@ -88,6 +90,24 @@ in_new (j ∷ ks) k =
       | Greater ↦ λ e. inr (in_new ks k)
     ] refl
 
+-- ---- steps that are added
+one_more : (g : Remainder) (n : Monomial) (j : ℕ) (c : Cancelled) → length ((stepped g n j c).steps) ≡ length g.steps + 1
+unfolding stepped
+one_more g n j c = length-append g.steps ((record { a = c.a; b = c.b; n = n; j = j; d = c.d }) ∷ [])
+
+one_step : (gs : List Remainder) (r : ℕ) (n : Monomial) (j : ℕ) (c : Cancelled) →
+    step_count (slice_set gs r (stepped (remainder_at gs r) n j c)) ≤ step_count gs + 1
+one_step [] r n j c = omega arith
+one_step (g ∷ gs) zero n j c = front (length ((stepped g n j c).steps)) (length g.steps) (step_count gs) (one_more g n j c)
+  where
+    front : (a b k : ℕ) → a ≡ b + 1 → a + k ≤ b + k + 1
+    front a b k e = omega arith
+one_step (g ∷ gs) (suc r) n j c =
+    further (length g.steps) (step_count (slice_set gs r (stepped (remainder_at gs r) n j c))) (step_count gs) (one_step gs r n j c)
+  where
+    further : (c a b : ℕ) → a ≤ b + 1 → c + a ≤ c + b + 1
+    further c a b h = omega arith
+
 -- ---- the moves
 module _ (limit : ℕ) where
   -- the state after is sound, and less is left to do
@@ -112,6 +132,7 @@ module _ (limit : ℕ) where
           counted = omega arith;
           lines = omega arith;
           made = omega arith;
+          spent = let e = s.spent in omega arith;
           taken = s.taken;
           powers = s.powers;
           basis = All-weaker (IsThere st.lines) (IsThere (st.lines ++ c.poly ∷ [])) (there_longer st.lines c.poly) st.basis s.basis;
@@ -130,6 +151,11 @@ module _ (limit : ℕ) where
       counted = omega arith;
       lines = s.lines;
       made = let m = s.made in omega arith;
+      spent =
+          let e = s.spent in
+          let m = one_step st.remainders r (quotient (remainder_at st.remainders r).rest (line_at st.lines j)) j
+          (reduced (remainder_at st.remainders r).rest (line_at st.lines j)) in
+          omega arith;
       taken = s.taken;
       powers =
           let p = s.powers in
@@ -151,6 +177,7 @@ module _ (limit : ℕ) where
       counted = s.counted;
       lines = s.lines;
       made = s.made;
+      spent = s.spent;
       taken = s.taken;
       powers = s.powers;
       basis = All-insert_key nat_cmp k (IsThere st.lines) st.basis s.basis there;
@@ -174,6 +201,7 @@ module _ (limit : ℕ) where
       counted = s.counted;
       lines = s.lines;
       made = s.made;
+      spent = s.spent;
       taken = s.taken;
       powers = s.powers;
       basis = s.basis;
@@ -192,6 +220,7 @@ module _ (limit : ℕ) where
       counted = s.counted;
       lines = s.lines;
       made = s.made;
+      spent = s.spent;
       taken = omega arith;
       powers = s.powers;
       basis = s.basis;

@@ -17,3 +17,9 @@ pub mod Followed
 pub mod Pruned
 pub mod Kept
 pub mod Certified
+pub mod Shown
+pub mod Queued
+pub mod Simulated
+pub mod Simulation
+pub mod Running
+pub mod Answered

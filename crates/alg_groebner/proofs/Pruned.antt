@@ -9,9 +9,7 @@ use Rattle.alg_mono.specs.declared.ends.Overrun.TheVariants.{Range, Degree, NoMe
 use Rattle.alg_mono.specs.NumberedPolynomials.{Polynomial, power_of}
 use Rattle.alg_lines.specs.declared.cert.Line.{Line}
 use Rattle.alg_lines.specs.declared.cert.GoalStep.{GoalStep}
-use Rattle.alg_groebner.specs.Pruning.{mark, mark_steps, mark_line, mark_lines, marks_of, kept_lines, renumbered_line, renumbered_step, numbers_after, certificate}
-use Rattle.alg_groebner.specs.State.{State}
-use Rattle.alg_groebner.specs.Choices.{remainder_at}
+use Rattle.alg_groebner.specs.Pruning.{mark, mark_steps, mark_line, mark_lines, marks_of, kept_lines, renumbered_line, renumbered_step, numbers_after, certificate_from}
 use Rattle.alg_groebner.specs.Runs.{powers, powers_outcome}
 use Rattle.alg_groebner.specs.declared.remainder.Remainder.{Remainder}
 use Rattle.alg_groebner.proofs.Scans.{turn}
@@ -110,18 +108,16 @@ marks_are given made here steps n first cited all ne fe ce he ae =
     ae ∙ (λ k. mark_lines given (he k) (ce k))
     ∙ (λ k. mark_lines given made (mark_steps steps ((fe ∙ ap (λ m. replicate given true ++ replicate m false) ne) k)))
 
-pub certificate_is : (st : State) (power : ℕ) (steps : List GoalStep) (marks : List Bool) (numbers : List ℕ) (lines : List Line)
-    (renumbered : List GoalStep) → steps ≡ (remainder_at st.remainders (power - 1)).steps →
-    marks ≡ marks_of st.given st.made steps → numbers ≡ numbers_after 0 marks →
-    lines ≡ kept_lines numbers (drop st.given marks) st.made → renumbered ≡ map (renumbered_step numbers) steps →
-    record { power = power; lines = lines; steps = renumbered } ≡ certificate st power
-unfolding certificate
-certificate_is st power steps marks numbers lines renumbered se me ne le re =
-    let all = me ∙ ap (marks_of st.given st.made) se in
-    let news = ne ∙ ap (numbers_after 0) all in
+pub certificate_is : (given : ℕ) (made : List Line) (steps : List GoalStep) (power : ℕ) (marks : List Bool) (numbers : List ℕ)
+    (lines : List Line) (renumbered : List GoalStep) → marks ≡ marks_of given made steps → numbers ≡ numbers_after 0 marks →
+    lines ≡ kept_lines numbers (drop given marks) made → renumbered ≡ map (renumbered_step numbers) steps →
+    record { power = power; lines = lines; steps = renumbered } ≡ certificate_from given made steps power
+unfolding certificate_from
+certificate_is given made steps power marks numbers lines renumbered me ne le re =
+    let news = ne ∙ ap (numbers_after 0) me in
     (λ k. record { power = power; lines = le k; steps = re k })
     ∙ (λ k. record {
       power = power;
-      lines = kept_lines (news k) (drop st.given (all k)) st.made;
-      steps = map (renumbered_step (news k)) (se k);
+      lines = kept_lines (news k) (drop given (me k)) made;
+      steps = map (renumbered_step (news k)) steps;
     })

@@ -13,3 +13,4 @@ pub mod Work
 pub mod Working
 pub mod Workable
 pub mod Steps
+pub mod Verdicts

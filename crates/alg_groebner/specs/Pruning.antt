@@ -59,7 +59,11 @@ pruned power given made steps marks = record {
   steps = map (renumbered_step (numbers_after 0 marks)) steps;
 }
 
-unfoldable pub certificate : State → ℕ → Cert
+-- the certificate of lines beyond the hypotheses and of steps
+unfoldable pub certificate_from : ℕ → List Line → List GoalStep → ℕ → Cert
+certificate_from given made steps power = pruned power given made steps (marks_of given made steps)
+
+-- the certificate of a run that came to its end by a power
+abbrev pub certificate : State → ℕ → Cert
 certificate st power =
-    let steps = (remainder_at st.remainders (power - 1)).steps in
-    pruned power st.given st.made steps (marks_of st.given st.made steps)
+    certificate_from st.given st.made (remainder_at st.remainders (power - 1)).steps power

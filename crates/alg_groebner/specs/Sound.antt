@@ -4,6 +4,7 @@ use Rattle.alg_mono.specs.NumberedPolynomials.{Polynomial}
 use Rattle.alg_lines.specs.Lines.{line_at}
 use Rattle.alg_pairs.specs.declared.pair.Pair.{Pair}
 use Rattle.alg_groebner.specs.State.{State}
+use Rattle.alg_groebner.specs.declared.remainder.Remainder.{Remainder}
 
 -- k is the number of a line
 abbrev pub IsNumber : List Polynomial → ℕ → Type 0
@@ -25,12 +26,18 @@ IsIn (j ∷ js) k = (j ≡ k) ⊎ IsIn js k
 abbrev pub AreMembers : List ℕ → Pair → Type 0
 AreMembers basis x = IsIn basis x.i × IsIn basis x.j
 
+-- how many steps all remainders have
+abbrev pub step_count : List Remainder → ℕ
+step_count [] = 0
+step_count (g ∷ gs) = length g.steps + step_count gs
+
 pub record IsSound (limit : ℕ) (st : State) : Type 0 where
   pub hypotheses : st.given < 2 ^ 31
   pub limited : limit < 2 ^ 30
   pub counted : st.count ≤ limit
   pub lines : length st.lines ≡ st.given + length st.made
   pub made : length st.made ≤ st.count
+  pub spent : length st.made + step_count st.remainders ≤ st.count
   pub taken : st.taken ≤ st.given
   pub powers : length st.remainders ≤ 16
   pub basis : All (IsThere st.lines) st.basis

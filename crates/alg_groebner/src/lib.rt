@@ -7,12 +7,20 @@
 
 mod basis;
 mod cancel;
+mod decide;
 mod factors;
 pub mod laws;
 mod leads;
 mod machine;
+mod pruning;
 mod queue;
 mod remainder;
+mod run;
 
 pub use alg_mono::{Mono, NoMemory, Overrun};
 pub use alg_poly::Poly;
+pub use decide::{Verdict, search};
+pub use pruning::prune;
+
+#[cfg(test)]
+mod tests;

@@ -8,7 +8,7 @@ ghost use Rattle.alg_groebner.specs.Choices.{zero_power, remainder_at};
 ghost use Rattle.alg_groebner.specs.Work.{member_at, member_reducible, with_current, with_made, with_step, work_joined, work_taken, work_pair_taken};
 ghost use Rattle.alg_groebner.specs.Working.{work_by_line, by_members, work_by_inputs, work_by_current, work_next};
 ghost use Rattle.alg_groebner.specs.Workable.{IsSomeMember, IsWorkable};
-ghost use Rattle.alg_groebner.specs.Steps.{work_of, Makes, Steps};
+ghost use Rattle.alg_groebner.specs.Steps.{work_of, Steps};
 
 use crate::NoMemory;
 use crate::basis::{Member, insert_member, member_of, reducer_of};
