@@ -13,7 +13,9 @@ use Rattle.alg_prover.specs.Laws as prover
 use Rattle.alg_universe.specs.declared.universe.Universe.{Ghosts}
 use Rattle.alg_typing.specs.Reading.{IsReadingOf}
 use Rattle.alg_cli.specs.declared.status.Status.{Status}
-use Rattle.alg_cli.specs.Replies.{ProvedAreRight, NoesDiffer, IsFileReply, IsReplyTo, most_bytes}
+use Rattle.alg_cli.specs.Replies.{ProvedAreRight, NoesDiffer, IsFileReply, IsReplyTo}
+use Rattle.alg_cli.specs.declared.command.Command.TheVariants as command
+use Rattle.alg_cli.specs.Commands.{most_bytes}
 
 -- an answer that is there is that of the goal at its place
 pair_at : (file : File) (goals : List Goal) (answers : List Answer) (i : ℕ) (answer : Answer) →
@@ -54,8 +56,9 @@ ok_weaker P Q (Err e) f h = tt
 -- the file's text with its answers is the reply to the bytes that read as the file
 pub answered_reply : {E : Type 0} (u : Ghosts E) → prover.ProvedIsRight u → prover.CertifiedIsRight u →
     prover.NoDiffers →
-    (bytes : List ℕ) (file : File) (text : List ℕ) (status : Status) → length bytes ≤ most_bytes →
-    IsReadingOf bytes (Ok file) → IsValid file → IsFileReply file text status → IsReplyTo u bytes text status
+    (bytes : List ℕ) (file : File) (text : List ℕ) (status : Status) → length bytes ≤ most_bytes command.Prove →
+    IsReadingOf bytes (Ok file) → IsValid file → IsFileReply file text status →
+    IsReplyTo u command.Prove bytes text status
 answered_reply u proved certified differ bytes file text status low reads valid reply =
     inr (
       low,

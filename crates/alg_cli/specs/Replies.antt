@@ -16,12 +16,11 @@ use Rattle.alg_tokens.specs.declared.token.Refusal.{Refusal}
 use Rattle.alg_typing.specs.Reading.{IsReadingOf}
 use Rattle.alg_universe.specs.declared.universe.Universe.{Ghosts}
 use Rattle.alg_universe.specs.Right.{IsRight}
+use Rattle.alg_cli.specs.declared.command.Command.{Command}
+use Rattle.alg_cli.specs.declared.command.Command.TheVariants as Command
 use Rattle.alg_cli.specs.declared.status.Status.{Status}
-use Rattle.alg_cli.specs.declared.status.Status.TheVariants.{Done, NotAll, Refused}
-
--- `prove` reads at most this many bytes
-abbrev pub most_bytes : ℕ
-most_bytes = 1048576
+use Rattle.alg_cli.specs.declared.status.Status.TheVariants.{Done, NotAll, Refused, Usage}
+use Rattle.alg_cli.specs.Commands.{most_bytes}
 
 -- an answer that says that the goal is proved
 abbrev pub is_proof : Answer → Bool
@@ -74,14 +73,24 @@ pub record IsRefused (bytes text : List ℕ) (status : Status) : Type 0 where
   pub writes : text ≡ refusal_text fault
   pub ends : status ≡ Refused
 
--- there are too many bytes
-pub record IsTooLarge (bytes text : List ℕ) (status : Status) : Type 0 where
-  pub large : most_bytes < length bytes
+-- there are more bytes than the command reads
+pub record IsTooLarge (command : Command) (bytes text : List ℕ) (status : Status) : Type 0 where
+  pub large : most_bytes command < length bytes
   pub writes : text ≡ codes "refused large\n"
   pub ends : status ≡ Refused
 
--- what an input of these bytes is replied
-abbrev pub IsReplyTo : {E : Type 0} → Ghosts E → List ℕ → List ℕ → Status → Type 0
-IsReplyTo u bytes text status =
-    IsTooLarge bytes text status
-    ⊎ ((length bytes ≤ most_bytes) × (IsRefused bytes text status ⊎ IsAnswered u bytes text status))
+-- the usage
+pub record IsUsage (text : List ℕ) (status : Status) : Type 0 where
+  pub writes : text ≡ codes "usage\n"
+  pub ends : status ≡ Usage
+
+-- what a command replies to bytes that are not too many
+abbrev pub IsReplyWithin : {E : Type 0} → Ghosts E → Command → List ℕ → List ℕ → Status → Type 0
+IsReplyWithin u Command.Prove bytes text status = IsRefused bytes text status ⊎ IsAnswered u bytes text status
+IsReplyWithin u Command.Usage bytes text status = IsUsage text status
+
+-- what a command replies to these bytes
+abbrev pub IsReplyTo : {E : Type 0} → Ghosts E → Command → List ℕ → List ℕ → Status → Type 0
+IsReplyTo u command bytes text status =
+    IsTooLarge command bytes text status
+    ⊎ ((length bytes ≤ most_bytes command) × IsReplyWithin u command bytes text status)

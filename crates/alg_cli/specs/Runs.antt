@@ -1,10 +1,13 @@
 -- What a run writes, and what its status says of it.
-use Rattle.std.specs.Prelude.{◌≡◌, ℕ, List, [], ◌∷◌, Option, map, codes, IfSome, String, string_bytes}
-use Rattle.std.specs.declared.alloc.Global.{Global}
-use Rattle.alg_outside.specs.Bytes.{Gains, GainsFront, Flushes}
+use Rattle.std.specs.Prelude.{◌≡◌, ◌⊎◌, ℕ, List, Option, IfSome}
+use Rattle.alg_outside.specs.Bytes.{Appends, AppendsPrefix, Flushes}
+use Rattle.alg_outside.specs.declared.source.Sink as sink
 use Rattle.alg_universe.specs.declared.universe.Universe.{Ghosts}
+use Rattle.alg_cli.specs.declared.command.Command.{Command}
+use Rattle.alg_cli.specs.declared.command.Command.TheVariants as command
 use Rattle.alg_cli.specs.declared.status.Status.{Status}
 use Rattle.alg_cli.specs.declared.status.Status.TheVariants.{Done, NotAll, Refused, Usage, ReadFault, WriteFault, NoMemory}
+use Rattle.alg_cli.specs.Commands.{bytes_for}
 use Rattle.alg_cli.specs.Replies.{IsReplyTo}
 
 -- the exit status of the program
@@ -17,53 +20,65 @@ code_of ReadFault = 4
 code_of WriteFault = 5
 code_of NoMemory = 6
 
--- the only word is `prove`
-abbrev pub IsProve : List (String Global) → Type 0
-IsProve words = map string_bytes words ≡ codes "prove" ∷ []
+-- a run with this status failed, and perhaps has not written all that it had to write
+abbrev pub IsFailure : Status → Type 0
+IsFailure ReadFault = Unit {0}
+IsFailure WriteFault = Unit {0}
+IsFailure NoMemory = Unit {0}
+IsFailure _ = ⊥
 
--- the status of a run that wrote all it had to write
-abbrev pub IsAfterAll : Status → Type 0
-IsAfterAll ReadFault = ⊥
-IsAfterAll WriteFault = ⊥
-IsAfterAll NoMemory = ⊥
-IsAfterAll _ = Unit {0}
+-- the statuses of a command that did not fail
+abbrev pub IsStatusOf : Command → Status → Type 0
+IsStatusOf command.Prove Done = Unit {0}
+IsStatusOf command.Prove NotAll = Unit {0}
+IsStatusOf command.Prove Refused = Unit {0}
+IsStatusOf command.Usage Usage = Unit {0}
+IsStatusOf _ _ = ⊥
 
--- the status of such a run that reads
-abbrev pub IsEnding : Status → Type 0
-IsEnding Usage = ⊥
-IsEnding status = IsAfterAll status
-
--- what a run with these words has to write, and the status that it has then: with other words than `prove` the usage,
--- else the reply to the input, where that is told
-pub record IsReply {E : Type 0} (u : Ghosts E) (words : List (String Global)) (left : Option (List ℕ)) (text : List ℕ)
+-- what a run has to write and its status then: the reply to the bytes that the command works on, where they are told,
+-- with one of the command's statuses
+pub record IsReply {E : Type 0} (u : Ghosts E) (command : Command) (left : Option (List ℕ)) (text : List ℕ)
     (status : Status) : Type 0 where
-  pub usage : ¬ IsProve words → (text ≡ codes "usage\n") × (status ≡ Usage)
-  pub reply : IsProve words → IfSome left (λ bytes. IsReplyTo u bytes text status)
-  pub ending : IsProve words → IsEnding status
+  pub replies : IfSome (bytes_for command left) (λ bytes. IsReplyTo u command bytes text status)
+  pub fits : IsStatusOf command status
 
--- what a sink says it took in a run: the bytes before and after, and how many of them are flushed
-pub record Written : Type 0 where
+-- what a sink tells before and after a run: the bytes that it took, and how many of them are flushed
+pub record SinkChange : Type 0 where
   pub before : Option (List ℕ)
   pub after : Option (List ℕ)
   pub flushed_before : Option ℕ
   pub flushed_after : Option ℕ
 
+abbrev pub change : {K : Type 0} → sink.Ghosts K → K → K → SinkChange
+change k before after = record {
+  before = k.written before;
+  after = k.written after;
+  flushed_before = k.flushed before;
+  flushed_after = k.flushed after;
+}
+
 -- nothing was written
-abbrev pub WroteNothing : Written → Type 0
-WroteNothing w = (w.after ≡ w.before) × (w.flushed_after ≡ w.flushed_before)
+abbrev pub WritesNothing : SinkChange → Type 0
+WritesNothing c = (c.after ≡ c.before) × (c.flushed_after ≡ c.flushed_before)
 
--- a front of what had to be written was written, perhaps all of it or nothing
-abbrev pub WroteFront : Written → List ℕ → Type 0
-WroteFront w text = GainsFront w.before w.after text × (w.flushed_after ≡ w.flushed_before)
+-- a prefix of a text was written, perhaps all of it or nothing, and no more was flushed
+abbrev pub WritesPrefix : SinkChange → List ℕ → Type 0
+WritesPrefix c text = AppendsPrefix c.before c.after text × (c.flushed_after ≡ c.flushed_before)
 
--- all that had to be written was written and flushed
-abbrev pub WroteAll : Written → List ℕ → Type 0
-WroteAll w text = Gains w.before w.after text × Flushes w.after w.flushed_before w.flushed_after
+-- all of a text was written and flushed
+abbrev pub WritesAll : SinkChange → List ℕ → Type 0
+WritesAll c text = Appends c.before c.after text × Flushes c.after c.flushed_before c.flushed_after
 
--- what a run wrote, by its status: nothing after a failed reading or want of memory, a front of its text after a
+-- what a run wrote, by its status: nothing after a failed reading or want of memory, a prefix of its text after a
 -- failed writing, and else all of its text, with the status that belongs to it
-abbrev pub Wrote : (List ℕ → Status → Type 0) → Status → Written → Type 0
-Wrote IsText ReadFault w = WroteNothing w
-Wrote IsText NoMemory w = WroteNothing w
-Wrote IsText WriteFault w = (text : List ℕ) × (planned : Status) × IsText text planned × WroteFront w text
-Wrote IsText status w = (text : List ℕ) × IsText text status × WroteAll w text
+abbrev pub WritesByStatus : (List ℕ → Status → Type 0) → Status → SinkChange → Type 0
+WritesByStatus IsText ReadFault c = WritesNothing c
+WritesByStatus IsText NoMemory c = WritesNothing c
+WritesByStatus IsText WriteFault c = (text : List ℕ) × (planned : Status) × IsText text planned × WritesPrefix c text
+WritesByStatus IsText status c = (text : List ℕ) × IsText text status × WritesAll c text
+
+-- unless memory ran out, the run replied to the bytes that its command works on, and ended with the reply's status
+abbrev pub RepliesUnlessNoMemory : {E : Type 0} → Ghosts E → Command → Option (List ℕ) → Status → SinkChange → Type 0
+RepliesUnlessNoMemory u command left result c =
+    IfSome (bytes_for command left) (λ bytes. (text : List ℕ) (status : Status) → IsReplyTo u command bytes text status →
+    (result ≡ NoMemory) ⊎ ((result ≡ status) × Appends c.before c.after text))

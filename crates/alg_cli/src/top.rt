@@ -1,14 +1,16 @@
 //! The top call: words, an input and an output.
 
-ghost use Rattle.std.specs.Prelude.{◌≡◌, ◌⊎◌, ◌≤◌, ◌++◌, List, ℕ, All, IfOk, OnOk, IfSome, IsTrue, ◌↔◌, length, map, Some, decimal};
-ghost use Rattle.alg_outside.specs.Bytes.{Gains, IsAtEnd};
+ghost use Rattle.std.specs.Prelude.{◌≡◌, ◌≢◌, ◌⊎◌, ◌≤◌, ◌++◌, List, ℕ, All, IfOk, OnOk, IfSome, length, map, Some, decimal};
+ghost use Rattle.alg_outside.specs.Bytes.{IsReadToEnd};
 ghost use Rattle.alg_outside.specs.Faults.{Rose};
 ghost use Rattle.alg_terms.specs.Valid.{IsValid};
 ghost use Rattle.alg_terms.specs.declared.goals.Method.TheVariants.{ByRing};
-ghost use Rattle.alg_cli.specs.Runs.{IsProve, IsReply, Written, Wrote, WroteAll, WroteFront, IsAfterAll, IsEnding};
+ghost use Rattle.alg_cli.specs.Commands.{command_of, most_bytes, ReadsInput};
+ghost use Rattle.alg_cli.specs.Runs.{IsReply, IsFailure, IsStatusOf, WritesByStatus, WritesAll, WritesPrefix, RepliesUnlessNoMemory, change};
 ghost use Rattle.alg_cli.specs.Replies.{IsReplyTo, IsFileReply};
 ghost use Rattle.alg_cli.specs.Replies as spec;
 
+use crate::command::Command;
 use crate::status::Status;
 use alg_lines::Answer;
 use alg_outside::{ReadEnd, Sink, Source, read_whole, write_whole};
@@ -21,9 +23,6 @@ use alg_typing::read_file;
 use alg_universe::Universe;
 use itoa::Buffer;
 use std::alloc::{AllocError, Global};
-
-/// How many bytes `prove` reads at most.
-const MOST_BYTES: usize = 1_048_576;
 
 /// What is to be written, and how the run ends once it is.
 #[derive(Drop)]
@@ -44,75 +43,55 @@ pub fn run<U: Universe, S: Source, K: Sink>(
 ) -> Status
     // What was written is the reply to the input, or the usage: the file's text with its answers,
     // each of which is right in every universe that fits, or the first fault.
-    ensures written { Wrote (IsReply U.Universe words.now (S.left source.old)) result
-        (record {
-          before = K.written sink.old;
-          after = K.written sink.new;
-          flushed_before = K.flushed sink.old;
-          flushed_after = K.flushed sink.new;
-        }) }
-    // Unless a count of faults rose or memory ran out, the reply to the input was written.
-    ensures always { IsProve words.now → ¬ Rose (S.faults source.old) (S.faults source.new)
+    ensures written { WritesByStatus (IsReply U.Universe (command_of words.now) (S.left source.old)) result
+        (change K.Sink sink.old sink.new) }
+    // Unless a count of faults rose or memory ran out, the reply was written.
+    ensures always { (ReadsInput (command_of words.now) → ¬ Rose (S.faults source.old) (S.faults source.new))
         → ¬ Rose (K.faults sink.old) (K.faults sink.new)
-        → IfSome (S.left source.old) (λ bytes. (text : List ℕ) (status : Status) → IsReplyTo U.Universe bytes text status
-        → (result ≡ Status.NoMemory) ⊎ ((result ≡ status) × Gains (K.written sink.old) (K.written sink.new) text)) }
+        → RepliesUnlessNoMemory U.Universe (command_of words.now) (S.left source.old) result
+        (change K.Sink sink.old sink.new) }
 
-    ensures usage { result ≡ Status.Usage → ¬ IsProve words.now }
-    ensures always_usage { ¬ IsProve words.now → ¬ Rose (K.faults sink.old) (K.faults sink.new) → result ≡ Status.Usage }
-    ensures usage_reads_nothing { ¬ IsProve words.now → source.new ≡ source.old }
-
+    ensures usage { result ≡ Status.Usage → command_of words.now ≡ Command.Usage }
+    ensures no_memory { result ≡ Status.NoMemory → command_of words.now ≢ Command.Usage }
+    ensures reads_nothing { ¬ ReadsInput (command_of words.now) → source.new ≡ source.old }
+    ensures reads { result ≡ Status.ReadFault → ReadsInput (command_of words.now) }
     ensures read_fault { result ≡ Status.ReadFault → Rose (S.faults source.old) (S.faults source.new) }
-    ensures read_fault_words { result ≡ Status.ReadFault → IsProve words.now }
     ensures write_fault { result ≡ Status.WriteFault → Rose (K.faults sink.old) (K.faults sink.new) }
-    ensures no_memory { result ≡ Status.NoMemory → IsProve words.now }
 
-    ensures done { result ≡ Status.Done → IsAtEnd (S.left source.new) }
-    ensures not_all { result ≡ Status.NotAll → IsAtEnd (S.left source.new) }
-    // Where an input within the limit is refused, it was read to its end.
-    ensures refused { result ≡ Status.Refused → IfSome (S.left source.old) (λ bytes. length bytes ≤ spec.most_bytes
-        → IsAtEnd (S.left source.new)) }
+    // After these the input was read to its end; where it is refused, if it was within the limit.
+    ensures done { result ≡ Status.Done → ReadsInput (command_of words.now)
+        → IsReadToEnd (S.left source.old) (S.left source.new) }
+    ensures not_all { result ≡ Status.NotAll → ReadsInput (command_of words.now)
+        → IsReadToEnd (S.left source.old) (S.left source.new) }
+    ensures refused { result ≡ Status.Refused → ReadsInput (command_of words.now)
+        → IfSome (S.left source.old) (λ bytes. length bytes ≤ most_bytes (command_of words.now)
+        → IsReadToEnd (S.left source.old) (S.left source.new)) }
 {
     alg_typing::laws::one_reading();
     alg_prover::laws::one_answer();
-    if !is_prove(words) {
+    let command = Command::of(words);
+    if command == Command::Usage {
         return write_reply(sink, b"usage\n", Status::Usage);
     }
-    let bytes = match read_whole(alloc, source, MOST_BYTES) {
+    let bytes = match read_whole(alloc, source, command.most_bytes()) {
         Ok(bytes) => bytes,
         Err(ReadEnd::Fault) => return Status::ReadFault,
         Err(ReadEnd::NoMemory) => return Status::NoMemory,
         Err(ReadEnd::TooLarge) => return write_reply(sink, b"refused large\n", Status::Refused),
     };
-    match reply_to::<U>(alloc, bytes.as_slice()) {
+    match reply_to::<U>(alloc, command, bytes.as_slice()) {
         Ok(Reply { text, status }) => write_reply(sink, text.as_slice(), status),
         Err(_) => Status::NoMemory,
     }
 }
 
-/// Whether the only word is `prove`.
-fn is_prove(words: &[String]) -> bool
-    ensures { IsTrue result ↔ IsProve words.now }
-{
-    words.len() == 1 && words[0].as_str() == "prove"
-}
-
 /// Writes a text and gives the status, or a write fault.
 fn write_reply<K: Sink>(sink: &mut K, text: &[u8], status: Status) -> Status
-    requires { IsAfterAll status }
-    ensures wrote { ((result ≡ status) × WroteAll
-        (record {
-          before = K.written sink.old;
-          after = K.written sink.new;
-          flushed_before = K.flushed sink.old;
-          flushed_after = K.flushed sink.new;
-        }) text.now)
-        ⊎ ((result ≡ Status.WriteFault) × Rose (K.faults sink.old) (K.faults sink.new) × WroteFront
-        (record {
-          before = K.written sink.old;
-          after = K.written sink.new;
-          flushed_before = K.flushed sink.old;
-          flushed_after = K.flushed sink.new;
-        }) text.now) }
+    requires { ¬ IsFailure status }
+    ensures { ((result ≡ status) × WritesAll
+        (change K.Sink sink.old sink.new) text.now)
+        ⊎ ((result ≡ Status.WriteFault) × Rose (K.faults sink.old) (K.faults sink.new) × WritesPrefix
+        (change K.Sink sink.old sink.new) text.now) }
 {
     match write_whole(sink, text) {
         Ok(()) => status,
@@ -120,11 +99,24 @@ fn write_reply<K: Sink>(sink: &mut K, text: &[u8], status: Status) -> Status
     }
 }
 
-/// The reply to an input that was read whole.
-fn reply_to<U: Universe>(alloc: Global, bytes: &[u8]) -> Result<Reply, AllocError>
-    requires { length bytes.now ≤ 1048576 }
-    ensures reply { IfOk result (λ reply. IsReplyTo U.Universe bytes.now reply.text.items reply.status) }
-    ensures ending { IfOk result (λ reply. IsEnding reply.status) }
+/// The reply of a command that reads to an input within its limit.
+fn reply_to<U: Universe>(alloc: Global, command: Command, bytes: &[u8]) -> Result<Reply, AllocError>
+    requires few { length bytes.now ≤ most_bytes command }
+    requires reads { ReadsInput command }
+    ensures reply { IfOk result (λ reply. IsReplyTo U.Universe command bytes.now reply.text.items reply.status) }
+    ensures status { IfOk result (λ reply. IsStatusOf command reply.status) }
+{
+    match command {
+        Command::Prove => proved::<U>(alloc, bytes),
+        Command::Usage => unreachable!(),
+    }
+}
+
+/// The file of an input with its answers, or its first fault.
+fn proved<U: Universe>(alloc: Global, bytes: &[u8]) -> Result<Reply, AllocError>
+    requires { length bytes.now ≤ most_bytes Command.Prove }
+    ensures reply { IfOk result (λ reply. IsReplyTo U.Universe Command.Prove bytes.now reply.text.items reply.status) }
+    ensures status { IfOk result (λ reply. IsStatusOf Command.Prove reply.status) }
 {
     alg_prover::laws::proved_is_right::<U>();
     alg_prover::laws::no_differs();
@@ -143,7 +135,7 @@ fn answered(alloc: Global, file: &File) -> Result<Reply, AllocError>
     requires valid { IsValid file.now }
     requires by_ring { All (λ goal. goal.method ≡ ByRing) file.now.goals }
     ensures reply { IfOk result (λ reply. IsFileReply file.now reply.text.items reply.status) }
-    ensures ending { IfOk result (λ reply. IsEnding reply.status) }
+    ensures status { IfOk result (λ reply. IsStatusOf Command.Prove reply.status) }
 {
     let answers = answers(alloc, file)?;
     let status = status_of(answers.as_slice());

@@ -1,7 +1,7 @@
 //! Sources and sinks over memory, which tell their bytes and fail at given calls.
 
 ghost use Rattle.std.specs.Prelude.{◌≡◌, ◌≤◌, ◌<◌, ◌↔◌, Some, Ok, OnOk, OnErr, IfOk, IsErr, Contains, [], length};
-ghost use Rattle.alg_outside.specs.Bytes.{Reads, Writes, Flushes};
+ghost use Rattle.alg_outside.specs.Bytes.{GivesBytes, TakesBytes, Flushes};
 ghost use Rattle.alg_outside.specs.Faults.{HasCause, Rose};
 ghost use Rattle.alg_outside.specs.Memory.{SourceState, GivesPiece, SinkState, CountsCall, TakesPiece};
 
@@ -65,7 +65,7 @@ impl Source for MemSource {
     ghost faults = { λ s. s.faults };
 
     fn read(&mut self, into: &mut [u8]) -> Result<usize, Failed>
-        ensures bytes { Reads (Some self.old.left) (Some self.new.left) result into.new }
+        ensures bytes { GivesBytes (Some self.old.left) (Some self.new.left) result into.new }
         ensures cause { HasCause self.old.faults self.new.faults result }
         ensures piece { GivesPiece self.old self.new result (length into.new) }
     {
@@ -169,7 +169,7 @@ impl Sink for MemSink {
     ghost faults = { λ s. s.faults };
 
     fn write(&mut self, piece: &[u8]) -> Result<usize, Failed>
-        ensures bytes { Writes (Some self.old.written) (Some self.new.written) result piece.now }
+        ensures bytes { TakesBytes (Some self.old.written) (Some self.new.written) result piece.now }
         ensures flushed { self.new.flushed ≡ self.old.flushed }
         ensures none { result ≡ Ok 0 → 0 < length piece.now → Rose self.old.faults self.new.faults }
         ensures cause { HasCause self.old.faults self.new.faults result }

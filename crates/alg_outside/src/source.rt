@@ -1,7 +1,7 @@
 //! The two traits, and the answer of a call that failed.
 
 ghost use Rattle.std.specs.Prelude.{◌≡◌, ◌<◌, ℕ, List, Option, Ok, OnOk, OnErr, length};
-ghost use Rattle.alg_outside.specs.Bytes.{Reads, Writes, Flushes};
+ghost use Rattle.alg_outside.specs.Bytes.{GivesBytes, TakesBytes, Flushes};
 ghost use Rattle.alg_outside.specs.Faults.{HasCause, Rose};
 
 /// A call failed. The count of faults of the object rose in that call.
@@ -19,7 +19,7 @@ pub trait Source {
     /// Puts the next bytes at the front of `into` and gives their number. 0 with a nonempty `into`
     /// is the end of the input. Fails only where `faults` rose, and then no byte is lost.
     fn read(&mut self, into: &mut [u8]) -> Result<usize, Failed>
-        ensures bytes { Reads (left self.old) (left self.new) result into.new }
+        ensures bytes { GivesBytes (left self.old) (left self.new) result into.new }
         ensures cause { HasCause (faults self.old) (faults self.new) result };
 }
 
@@ -37,7 +37,7 @@ pub trait Sink {
     /// Takes bytes from the front of `piece` and gives their number. Takes none of a nonempty
     /// `piece`, or fails, only where `faults` rose; a failure takes no byte.
     fn write(&mut self, piece: &[u8]) -> Result<usize, Failed>
-        ensures bytes { Writes (written self.old) (written self.new) result piece.now }
+        ensures bytes { TakesBytes (written self.old) (written self.new) result piece.now }
         ensures flushed { flushed self.new ≡ flushed self.old }
         ensures none { result ≡ Ok 0 → 0 < length piece.now
             → Rose (faults self.old) (faults self.new) }

@@ -1,7 +1,7 @@
 //! Sources and sinks over the readers and writers of std: the trusted edge.
 
 ghost use Rattle.std.specs.Prelude.{◌≡◌, ◌≤◌, None, Ok, length};
-ghost use Rattle.alg_outside.specs.Bytes.{Reads, Writes};
+ghost use Rattle.alg_outside.specs.Bytes.{GivesBytes, TakesBytes};
 ghost use Rattle.alg_outside.specs.Faults.{HasCause, CountsFailure, greatest_count};
 
 use crate::source::{Failed, Sink, Source};
@@ -29,7 +29,7 @@ impl<R: Read + Drop> Source for StdSource<R> {
     ghost faults = { λ s. s.faults };
 
     fn read(&mut self, into: &mut [u8]) -> Result<usize, Failed>
-        ensures bytes { Reads None None result into.new }
+        ensures bytes { GivesBytes None None result into.new }
         ensures cause { let faults = ⟦<StdSource<R> as Source>⟧.faults in
             HasCause (faults self.old) (faults self.new) result }
         ensures counts { let faults = ⟦<StdSource<R> as Source>⟧.faults in
@@ -70,7 +70,7 @@ impl<W: Write + Drop> Sink for StdSink<W> {
     ghost faults = { λ s. s.faults };
 
     fn write(&mut self, piece: &[u8]) -> Result<usize, Failed>
-        ensures bytes { Writes None None result piece.now }
+        ensures bytes { TakesBytes None None result piece.now }
         ensures none { result ≡ Ok 0 → length piece.now ≡ 0 }
         ensures cause { let faults = ⟦<StdSink<W> as Sink>⟧.faults in
             HasCause (faults self.old) (faults self.new) result }

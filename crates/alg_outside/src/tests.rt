@@ -3,31 +3,74 @@
 use crate::{
     Failed, MemSink, MemSource, ReadEnd, Sink, Source, StdSink, StdSource, read_whole, write_whole,
 };
+use std::alloc::Global;
 use std::collections::VecDeque;
 use std::io;
 use std::io::{Read, Write};
 use std::test::Fail;
 
-/// A reader and writer that fails at each call.
+/// A reader that gives the bytes that it has, one a call, and then fails at each call.
 #[derive(Drop)]
-struct Broken;
+struct Breaks {
+    bytes: &'static [u8],
+}
 
-impl Read for Broken {
-    fn read(&mut self, _into: &mut [u8]) -> io::Result<usize> {
-        Err(io::ErrorKind::Other.into())
+impl Read for Breaks {
+    fn read(&mut self, into: &mut [u8]) -> io::Result<usize> {
+        match (self.bytes, into) {
+            ([first, rest @ ..], [place, ..]) => {
+                *place = *first;
+                self.bytes = rest;
+                Ok(1)
+            }
+            _ => Err(io::ErrorKind::Other.into()),
+        }
     }
 }
 
-/// A writer that takes nothing and doesn't fail.
+/// A writer that takes one byte a call and as many bytes in all as it has room for. Then a write
+/// takes nothing, or fails; and a flush fails where it is to.
 #[derive(Drop)]
-struct Stuck;
+struct Narrow {
+    bytes: Vec<u8>,
+    room: usize,
+    fails_when_full: bool,
+    fails_to_flush: bool,
+}
 
-impl Write for Stuck {
-    fn write(&mut self, _piece: &[u8]) -> io::Result<usize> {
-        Ok(0)
+impl Narrow {
+    fn new(alloc: Global, room: usize, fails_when_full: bool, fails_to_flush: bool) -> Narrow {
+        Narrow {
+            bytes: Vec::new(alloc),
+            room,
+            fails_when_full,
+            fails_to_flush,
+        }
+    }
+}
+
+impl Write for Narrow {
+    fn write(&mut self, piece: &[u8]) -> io::Result<usize> {
+        if self.bytes.len() >= self.room {
+            return if self.fails_when_full {
+                Err(io::ErrorKind::StorageFull.into())
+            } else {
+                Ok(0)
+            };
+        }
+        match piece {
+            [] => Ok(0),
+            [first, ..] => {
+                self.bytes.push(*first)?;
+                Ok(1)
+            }
+        }
     }
 
     fn flush(&mut self) -> io::Result<()> {
+        if self.fails_to_flush {
+            return Err(io::ErrorKind::Other.into());
+        }
         Ok(())
     }
 }
@@ -104,10 +147,43 @@ fn adapts_readers_and_writers(rt: HostRuntime) -> Result<(), Fail> {
         .ok_or("no write")?;
     let all = read_whole(rt.alloc(), &mut StdSource::new(queue), 3)?;
     assert_eq!(rt; all.as_slice(), b"abc".as_slice());
+    Ok(())
+}
 
-    assert_eq!(rt; StdSource::new(Broken).read(&mut [0; 4]), Err(Failed));
-    assert_eq!(rt; StdSink::new(Stuck).write(b"abc"), Err(Failed));
-    assert_eq!(rt; StdSink::new(Stuck).write(b""), Ok(0));
-    assert_eq!(rt; write_whole(&mut StdSink::new(Stuck), b"abc"), Err(Failed));
+#[test]
+fn a_readers_error_is_not_the_end(rt: HostRuntime) {
+    for bytes in [b"".as_slice(), b"ab".as_slice()] {
+        let mut source = StdSource::new(Breaks { bytes });
+        assert_eq!(rt;
+            read_whole(rt.alloc(), &mut source, 9),
+            Err(ReadEnd::Fault),
+            "{bytes:?}"
+        );
+    }
+}
+
+#[test]
+fn a_writers_short_writes_and_errors_are_told(rt: HostRuntime) -> Result<(), Fail> {
+    // Each row: the room, whether a full writer fails, whether a flush does, the bytes that came,
+    // and what comes of it.
+    let rows: [(usize, bool, bool, &[u8], Result<(), Failed>); 5] = [
+        (3, false, false, b"abc", Ok(())),
+        (2, false, false, b"ab", Err(Failed)),
+        (2, true, false, b"ab", Err(Failed)),
+        (0, true, false, b"", Err(Failed)),
+        (3, false, true, b"abc", Err(Failed)),
+    ];
+    for (room, full, flush, want, end) in rows {
+        let mut writer = Narrow::new(rt.alloc(), room, full, flush);
+        let got = write_whole(&mut StdSink::new(&mut writer), b"abc");
+        assert_eq!(rt; got, end, "{room} bytes of room");
+        assert_eq!(rt; writer.bytes.as_slice(), want, "{room} bytes of room");
+    }
+    let full = Narrow::new(rt.alloc(), 0, false, false);
+    assert_eq!(rt;
+        StdSink::new(full).write(b""),
+        Ok(0),
+        "nothing is taken of nothing"
+    );
     Ok(())
 }

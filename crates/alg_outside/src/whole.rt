@@ -1,7 +1,7 @@
 //! All bytes of a source, and all bytes to a sink.
 
 ghost use Rattle.std.specs.Prelude.{◌≡◌, ◌+◌, ◌-◌, ◌^◌, ◌<◌, ◌≤◌, ◌⊎◌, ◌≢◌, length, Err, IfOk, OnOk, OnErr, IsSomeAnd, IfSome};
-ghost use Rattle.alg_outside.specs.Bytes.{LosesAll, LosesUpTo, LosesJust, Gains, GainsFront, Flushes};
+ghost use Rattle.alg_outside.specs.Bytes.{ConsumesAll, ConsumesUpTo, ConsumesExactly, Appends, AppendsPrefix, Flushes};
 ghost use Rattle.alg_outside.specs.Faults.{Rose};
 ghost use Rattle.alg_outside.specs.declared.whole.ReadEnd.TheVariants.{Fault, TooLarge, NoMemory};
 
@@ -29,15 +29,15 @@ pub fn read_whole<S: Source>(alloc: Global, source: &mut S, max: usize) -> Resul
     requires { max < 2 ^ 64 - 1 }
     ensures count { S.faults source.old ≤ S.faults source.new }
 
-    ensures all { IfOk result (λ all. LosesAll (S.left source.old) (S.left source.new) all.items) }
+    ensures all { IfOk result (λ all. ConsumesAll (S.left source.old) (S.left source.new) all.items) }
     ensures small { IfOk result (λ all. length all.items ≤ max) }
 
     ensures fault { result ≡ Err Fault → Rose (S.faults source.old) (S.faults source.new) }
     ensures fault_before { result ≡ Err Fault
-        → LosesUpTo (S.left source.old) (S.left source.new) max }
+        → ConsumesUpTo (S.left source.old) (S.left source.new) max }
 
     ensures large { result ≡ Err TooLarge
-        → LosesJust (S.left source.old) (S.left source.new) (max + 1) }
+        → ConsumesExactly (S.left source.old) (S.left source.new) (max + 1) }
     ensures larger { result ≡ Err TooLarge → IfSome (S.left source.old) (λ all. max < length all) }
     // Larger input is refused as such, unless a read failed or memory ran out before.
     ensures always { IsSomeAnd (S.left source.old) (λ all. max < length all)
@@ -45,7 +45,7 @@ pub fn read_whole<S: Source>(alloc: Global, source: &mut S, max: usize) -> Resul
         → (result ≡ Err TooLarge) ⊎ (result ≡ Err NoMemory) }
 
     ensures no_memory { result ≡ Err NoMemory
-        → LosesUpTo (S.left source.old) (S.left source.new) (max + 1) }
+        → ConsumesUpTo (S.left source.old) (S.left source.new) (max + 1) }
 {
     let mut all = Vec::new(alloc);
     let mut buffer = [0u8; PIECE];
@@ -69,12 +69,12 @@ pub fn read_whole<S: Source>(alloc: Global, source: &mut S, max: usize) -> Resul
 pub fn write_whole<K: Sink>(sink: &mut K, bytes: &[u8]) -> Result<(), Failed>
     ensures count { K.faults sink.old ≤ K.faults sink.new }
 
-    ensures all { OnOk result (Gains (K.written sink.old) (K.written sink.new) bytes.now) }
+    ensures all { OnOk result (Appends (K.written sink.old) (K.written sink.new) bytes.now) }
     ensures flushed { OnOk result
         (Flushes (K.written sink.new) (K.flushed sink.old) (K.flushed sink.new)) }
 
     ensures cause { OnErr result (Rose (K.faults sink.old) (K.faults sink.new)) }
-    ensures front { OnErr result (GainsFront (K.written sink.old) (K.written sink.new) bytes.now) }
+    ensures front { OnErr result (AppendsPrefix (K.written sink.old) (K.written sink.new) bytes.now) }
     ensures not_flushed { OnErr result (K.flushed sink.new ≡ K.flushed sink.old) }
 {
     let mut at = 0;

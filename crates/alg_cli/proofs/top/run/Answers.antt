@@ -1,66 +1,94 @@
-use Rattle.std.proofs.Common.{◌≡◌, ◌<◌, length, codes, ap, ◌∙◌, sym, subst, Err}
+use Rattle.std.proofs.Common.{◌≡◌, ◌≢◌, ◌<◌, [], length, codes, refl, ap, ◌∙◌, sym, subst, Err, rules}
+use Rattle.alg_cli.specs.declared.command.Command.TheVariants as command
 use Rattle.alg_cli.specs.declared.status.Status.TheVariants.{Refused, Usage}
-use Rattle.alg_cli.specs.Replies.{IsReplyTo, most_bytes}
-use Rattle.alg_cli.specs.Runs.{IsReply}
-use Rattle.alg_cli.proofs.Writing.{wrote, always, after_all, of_told, if_told, usage_reply, too_large, prove_reply}
+use Rattle.alg_cli.specs.Commands.{command_of, ReadsInput}
+use Rattle.alg_cli.specs.Replies.{IsReplyTo}
+use Rattle.alg_cli.specs.Runs.{IsReply, RepliesUnlessNoMemory, change}
+use Rattle.alg_cli.proofs.Commands.{reads_unless_usage, works_on_input, may_refuse, no_failure, usage_reply, too_large}
+use Rattle.alg_cli.proofs.Writing.{writes_by_status, always, of_told, if_told}
 use Rattle.alg_cli.proofs.top.run.Goals as goal
 
--- other words than `prove`
-pub returns-then-not-is_prove-clause-written : goal.returns-then-not-is_prove-clause-written
-returns-then-not-is_prove-clause-written g c =
+-- the usage
+pub returns-then-eq-clause-written : goal.returns-then-eq-clause-written
+returns-then-eq-clause-written g c =
+    let u = g.U.Universe in
     let left = g.S.Source.left c.args.source.now in
-    let other : ¬ _ = λ prove. let no = c.if-not-is_prove.true in let yes = c.is_prove.ensures.1 prove in cc in
-    wrote (IsReply g.U.Universe c.args.words.now left) Usage c.write_reply.result _ (codes "usage\n") _ tt
-    (usage_reply g.U.Universe c.args.words.now left other) c.write_reply.ensures.wrote
+    let is : c.of-command.result ≡ command.Usage = search rules in
+    let reply : IsReply u command.Usage left (codes "usage\n") Usage = record { replies = usage_reply u [] refl; fits = tt } in
+    writes_by_status (IsReply u (command_of c.args.words.now) left) Usage c.write_reply.result _ (codes "usage\n") _
+    (λ failure. failure)
+    (subst (λ k. IsReply u k left (codes "usage\n") Usage) (sym is ∙ c.of-command.ensures) reply) c.write_reply.ensures
 
 -- too many bytes
 pub returns-in-Err-TooLarge-clause-written : goal.returns-in-Err-TooLarge-clause-written
 returns-in-Err-TooLarge-clause-written g c =
+    let u = g.U.Universe in
     let left = g.S.Source.left c.args.source.now in
-    let prove = c.is_prove.ensures.0 c.if-not-is_prove.false in
+    let k = c.of-command.result in
+    let other : k ≢ command.Usage = search rules in
+    let reads = reads_unless_usage k other in
     let larger = c.read_whole.ensures.larger (c.in-Err-TooLarge.is ∙ ap Err c.in-Err-TooLarge.field-0-is) in
-    let reply = if_told left (λ bytes. most_bytes < length bytes) _ (too_large g.U.Universe) larger in
-    wrote (IsReply g.U.Universe c.args.words.now left) Refused c.write_reply-in-Err-TooLarge.result _
-    (codes "refused large\n") _ tt
-    (prove_reply g.U.Universe c.args.words.now left (codes "refused large\n") Refused prove reply tt)
-    c.write_reply-in-Err-TooLarge.ensures.wrote
+    let replies = if_told left (λ bytes. c.most_bytes.result < length bytes) _
+    (λ bytes large. too_large u k bytes (subst (λ most. most < length bytes) c.most_bytes.ensures.most large)) larger in
+    let reply : IsReply u k left (codes "refused large\n") Refused =
+    record { replies = works_on_input k left _ reads replies; fits = may_refuse k reads } in
+    writes_by_status (IsReply u (command_of c.args.words.now) left) Refused c.write_reply-in-Err-TooLarge.result _
+    (codes "refused large\n") _ (λ failure. failure)
+    (subst (λ k. IsReply u k left (codes "refused large\n") Refused) c.of-command.ensures reply)
+    c.write_reply-in-Err-TooLarge.ensures
 
 pub returns-in-Err-TooLarge-clause-always : goal.returns-in-Err-TooLarge-clause-always
-returns-in-Err-TooLarge-clause-always g c = λ prove read never.
+returns-in-Err-TooLarge-clause-always g c = λ read never.
+    let u = g.U.Universe in
     let left = g.S.Source.left c.args.source.now in
+    let k = c.of-command.result in
+    let other : k ≢ command.Usage = search rules in
+    let result = c.write_reply-in-Err-TooLarge.result in
     let larger = c.read_whole.ensures.larger (c.in-Err-TooLarge.is ∙ ap Err c.in-Err-TooLarge.field-0-is) in
-    if_told left (λ bytes. most_bytes < length bytes) _ (λ bytes large.
-    always g.U.Universe c.one_reading.ensures c.one_answer.ensures bytes (codes "refused large\n") Refused
-    c.write_reply-in-Err-TooLarge.result _ _ never (too_large g.U.Universe bytes large)
-    c.write_reply-in-Err-TooLarge.ensures.wrote) larger
+    subst (λ k. RepliesUnlessNoMemory u k left result
+    (change g.K.Sink c.args.sink.now c.write_reply-in-Err-TooLarge.new.sink)) c.of-command.ensures
+    (works_on_input k left _ (reads_unless_usage k other)
+    (if_told left (λ bytes. c.most_bytes.result < length bytes) _ (λ bytes large.
+    always u c.one_reading.ensures c.one_answer.ensures k bytes (codes "refused large\n") Refused result _ _ never
+    (too_large u k bytes (subst (λ most. most < length bytes) c.most_bytes.ensures.most large))
+    c.write_reply-in-Err-TooLarge.ensures) larger))
 
 -- the input was read whole
 pub returns-in-Ok-reply_to-clause-written : goal.returns-in-Ok-reply_to-clause-written
 returns-in-Ok-reply_to-clause-written g c =
+    let u = g.U.Universe in
     let left = g.S.Source.left c.args.source.now in
-    let prove = c.is_prove.ensures.0 c.if-not-is_prove.false in
+    let k = c.of-command.result in
+    let other : k ≢ command.Usage = search rules in
     let reply = c.in-Ok-reply_to.field-0 in
+    let fits = c.in-Ok-reply_to.ensures.status in
     let written = c.as_slice-in-Ok-reply_to.result.now in
     let same : reply.text.items ≡ written = sym c.as_slice-in-Ok-reply_to.ensures.value in
-    let made = subst (λ bytes. IsReplyTo g.U.Universe bytes reply.text.items reply.status) c.as_slice.ensures.value
+    let made = subst (λ bytes. IsReplyTo u k bytes reply.text.items reply.status) c.as_slice.ensures.value
     c.in-Ok-reply_to.ensures.reply in
-    let told = of_told left _ c.in-Ok.bytes.items (λ bytes. IsReplyTo g.U.Universe bytes written reply.status)
-    c.in-Ok.ensures.all (subst (λ text. IsReplyTo g.U.Universe c.in-Ok.bytes.items text reply.status) same made) in
-    wrote (IsReply g.U.Universe c.args.words.now left) reply.status c.write_reply-in-Ok-reply_to.result _ written _
-    (after_all reply.status c.in-Ok-reply_to.ensures.ending)
-    (prove_reply g.U.Universe c.args.words.now left written reply.status prove told c.in-Ok-reply_to.ensures.ending)
-    c.write_reply-in-Ok-reply_to.ensures.wrote
+    let replies = of_told left _ c.in-Ok.bytes.items (λ bytes. IsReplyTo u k bytes written reply.status)
+    c.in-Ok.ensures.all (subst (λ text. IsReplyTo u k c.in-Ok.bytes.items text reply.status) same made) in
+    let is : IsReply u k left written reply.status =
+    record { replies = works_on_input k left _ (reads_unless_usage k other) replies; fits = fits } in
+    writes_by_status (IsReply u (command_of c.args.words.now) left) reply.status c.write_reply-in-Ok-reply_to.result _
+    written _ (no_failure k reply.status fits)
+    (subst (λ k. IsReply u k left written reply.status) c.of-command.ensures is) c.write_reply-in-Ok-reply_to.ensures
 
 pub returns-in-Ok-reply_to-clause-always : goal.returns-in-Ok-reply_to-clause-always
-returns-in-Ok-reply_to-clause-always g c = λ prove read never.
+returns-in-Ok-reply_to-clause-always g c = λ read never.
+    let u = g.U.Universe in
     let left = g.S.Source.left c.args.source.now in
+    let k = c.of-command.result in
+    let other : k ≢ command.Usage = search rules in
     let reply = c.in-Ok-reply_to.field-0 in
     let written = c.as_slice-in-Ok-reply_to.result.now in
+    let result = c.write_reply-in-Ok-reply_to.result in
     let same : reply.text.items ≡ written = sym c.as_slice-in-Ok-reply_to.ensures.value in
-    let made = subst (λ bytes. IsReplyTo g.U.Universe bytes reply.text.items reply.status) c.as_slice.ensures.value
+    let made = subst (λ bytes. IsReplyTo u k bytes reply.text.items reply.status) c.as_slice.ensures.value
     c.in-Ok-reply_to.ensures.reply in
-    of_told left _ c.in-Ok.bytes.items _ c.in-Ok.ensures.all
-    (always g.U.Universe c.one_reading.ensures c.one_answer.ensures c.in-Ok.bytes.items written reply.status
-    c.write_reply-in-Ok-reply_to.result _ _ never
-    (subst (λ text. IsReplyTo g.U.Universe c.in-Ok.bytes.items text reply.status) same made)
-    c.write_reply-in-Ok-reply_to.ensures.wrote)
+    subst (λ k. RepliesUnlessNoMemory u k left result
+    (change g.K.Sink c.args.sink.now c.write_reply-in-Ok-reply_to.new.sink)) c.of-command.ensures
+    (works_on_input k left _ (reads_unless_usage k other) (of_told left _ c.in-Ok.bytes.items _ c.in-Ok.ensures.all
+    (always u c.one_reading.ensures c.one_answer.ensures k c.in-Ok.bytes.items written reply.status result _ _ never
+    (subst (λ text. IsReplyTo u k c.in-Ok.bytes.items text reply.status) same made)
+    c.write_reply-in-Ok-reply_to.ensures)))

@@ -1,6 +1,6 @@
 use Rattle.std.proofs.Common.{arith, ◌+◌, ◌≤◌, length, take, ◌++◌, length-append}
 use Rattle.std.proofs.lemmas.Grind.{common_steps}
-use Rattle.alg_outside.proofs.Turns.{loses_more}
+use Rattle.alg_outside.proofs.Turns.{consumes_more}
 use Rattle.alg_outside.proofs.whole.read_whole.Goals as goal
 
 -- what was taken is what stood there and the piece that found no memory
@@ -13,4 +13,4 @@ returns-then-is_err-clause-no_memory g c _ =
     let kept = c.read.auto.into in
     grind (arith, common_steps) in
     let small : length (all ++ piece) ≤ c.args.max + 1 = omega (arith, length-append all piece) in
-    (all ++ piece, loses_more _ _ _ _ _ c.loop-buffer.invariant.taken c.in-Ok.ensures.bytes.1, small)
+    (all ++ piece, consumes_more _ _ _ _ _ c.loop-buffer.invariant.taken c.in-Ok.ensures.bytes.1, small)

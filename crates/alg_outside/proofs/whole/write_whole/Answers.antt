@@ -1,7 +1,7 @@
 use Rattle.std.proofs.Common.{arith, ◌≡◌, ◌-◌, length, take, drop, ap, ◌∙◌, subst, length-drop}
 use Rattle.std.proofs.lemmas.List.{take_rest}
-use Rattle.alg_outside.specs.Bytes.{Gains}
-use Rattle.alg_outside.proofs.Turns.{gains_more, longer_front}
+use Rattle.alg_outside.specs.Bytes.{Appends}
+use Rattle.alg_outside.proofs.Turns.{appends_more, longer_prefix}
 use Rattle.alg_outside.proofs.whole.write_whole.Goals as goal
 
 pub loop-at-preserved : goal.loop-at-preserved
@@ -14,7 +14,7 @@ loop-at-preserved g c =
     record {
       within = omega (arith, w.bytes.0, rest);
       count = omega (arith, w.cause.never_falls, c.loop-at.invariant.count);
-      gained = subst (Gains _ _) (longer_front bytes at c.in_ok-count.count)
-          (gains_more _ _ _ _ _ c.loop-at.invariant.gained w.bytes.1);
+      gained = subst (Appends _ _) (longer_prefix bytes at c.in_ok-count.count)
+          (appends_more _ _ _ _ _ c.loop-at.invariant.gained w.bytes.1);
       flushed = w.flushed ∙ c.loop-at.invariant.flushed;
     }

@@ -1,12 +1,12 @@
 use Rattle.std.proofs.Common.{◌≡◌, ◌-◌, ◌≤◌, length, take}
-use Rattle.alg_outside.specs.Bytes.{Gains}
+use Rattle.alg_outside.specs.Bytes.{Appends}
 use Rattle.alg_outside.proofs.whole.write_whole.Given as goal
 
 abbrev pub invariant-loop-at : goal.invariant-loop-at
 invariant-loop-at g l = record {
   within : l.at ≤ length l.bytes;
   count : g.K.Sink.faults l.initial.sink ≤ g.K.Sink.faults l.sink;
-  gained : Gains (g.K.Sink.written l.initial.sink) (g.K.Sink.written l.sink) (take l.at l.bytes);
+  gained : Appends (g.K.Sink.written l.initial.sink) (g.K.Sink.written l.sink) (take l.at l.bytes);
   flushed : g.K.Sink.flushed l.sink ≡ g.K.Sink.flushed l.initial.sink;
 }
 

@@ -1,5 +1,5 @@
 use Rattle.alg_cli.proofs.Answered.{ok_weaker, answered_reply}
-use Rattle.alg_cli.proofs.top.reply_to.Goals as goal
+use Rattle.alg_cli.proofs.top.proved.Goals as goal
 
 -- the bytes are a file
 pub returns-in-Ok-clause-reply : goal.returns-in-Ok-clause-reply
