@@ -80,5 +80,6 @@ WritesByStatus IsText status c = (text : List ℕ) × IsText text status × Writ
 -- unless memory ran out, the run replied to the bytes that its command works on, and ended with the reply's status
 abbrev pub RepliesUnlessNoMemory : {E : Type 0} → Ghosts E → Command → Option (List ℕ) → Status → SinkChange → Type 0
 RepliesUnlessNoMemory u command left result c =
-    IfSome (bytes_for command left) (λ bytes. (text : List ℕ) (status : Status) → IsReplyTo u command bytes text status →
+    IfSome (bytes_for command left) (λ bytes. (text : List ℕ) (status : Status) →
+    IsReplyTo u command bytes text status →
     (result ≡ NoMemory) ⊎ ((result ≡ status) × Appends c.before c.after text))

@@ -5,7 +5,7 @@ use Rattle.alg_terms.specs.declared.term.Term.TheVariants.{Var, Int, Neg, Add, S
 use Rattle.alg_terms.specs.Nodes.{EachNode}
 use Rattle.alg_terms.specs.TermRules.{IsInRange}
 use Rattle.alg_terms.proofs.BuiltNodes.{EachNode-Neg, EachNode-Add, EachNode-Sub, EachNode-Mul, EachNode-Div, EachNode-Pow, EachNode-Hom}
-use Rattle.alg_printer.specs.Trial.{IsOfLetters}
+use Rattle.alg_printer.specs.Examples.{IsOfLetters}
 
 pub letter : (k : ℕ) → k < 3 → IsOfLetters (Var k)
 unfolding EachNode

@@ -1,4 +1,5 @@
 pub mod Declared
+pub mod Examples
 pub mod Leaves
 pub mod Letters
 pub mod Named
@@ -7,4 +8,3 @@ pub mod Paths
 pub mod Pieces
 pub mod Tables
 pub mod TermTexts
-pub mod Trial

@@ -21,6 +21,7 @@ abbrev pub conditions_text : File → List Term → List ℕ
 conditions_text file conditions =
     listed (codes " if ") (codes ", ") (λ t. term_text file t ++ codes " <> 0") conditions
 
+-- constants: none, or each with `<> 0`
 abbrev pub constants_text : List ℤ → List ℕ
 constants_text constants = listed (codes " if ") (codes ", ") (λ c. signed_decimal c ++ codes " <> 0") constants
 

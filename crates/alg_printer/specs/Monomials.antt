@@ -17,6 +17,7 @@ abbrev pub goal_atoms : File → Goal → List Atom
 goal_atoms file goal =
     let atoms = table file goal.equation (uses_of goal.method) in if nat_le (length atoms) MAX_ATOMS then atoms else []
 
+-- the atom that stands for one that is not there
 abbrev pub no_atom : Atom
 no_atom = record { path = []; var = 0 }
 
@@ -46,5 +47,5 @@ abbrev pub IsAtomOf : File → Atom → Type 0
 IsAtomOf file atom = IsPathOf file atom.path × (atom.var < length file.vars)
 
 -- the atoms of a monomial are among these
-abbrev pub IsOver : List Atom → Monomial → Type 0
-IsOver atoms m = All (λ e. e.0 < length atoms) m
+abbrev pub IsOverAtoms : List Atom → Monomial → Type 0
+IsOverAtoms atoms m = All (λ e. e.0 < length atoms) m

@@ -3,13 +3,15 @@ use Rattle.std.specs.Prelude.{◌<◌, ℕ, List, [], ◌∷◌, ◌++◌, codes
 use Rattle.alg_terms.specs.declared.file.File.{File}
 use Rattle.alg_terms.specs.Members.{sort_at, hom_at, var_at}
 
--- the names of sort number s, of morphism number f and of variable number k
+-- the name of sort number s
 abbrev pub sort_name : File → ℕ → List ℕ
 sort_name file s = (sort_at file s).name
 
+-- the name of morphism number f
 abbrev pub hom_name : File → ℕ → List ℕ
 hom_name file f = (hom_at file f).name
 
+-- the name of variable number k
 abbrev pub var_name : File → ℕ → List ℕ
 var_name file k = (var_at file k).name
 
@@ -22,10 +24,11 @@ abbrev pub under : File → List ℕ → List ℕ → List ℕ
 under file [] name = name
 under file (f ∷ path) name = hom_name file f ++ in_parentheses (under file path name)
 
--- what stands before the name, and what stands after it
+-- what stands before a name under a path
 abbrev pub opening : File → List ℕ → List ℕ
 opening file path = flat_map (λ f. hom_name file f ++ codes "(") path
 
+-- what stands after it
 abbrev pub closing : List ℕ → List ℕ
 closing path = flat_map (λ f. codes ")") path
 

@@ -16,6 +16,7 @@ use Rattle.alg_terms.specs.Order.{numbers_from}
 use Rattle.alg_printer.specs.Names.{sort_name, var_name, under, listed}
 use Rattle.alg_printer.specs.Terms.{term_text}
 
+-- the word of a kind
 abbrev pub kind_text : Kind → List ℕ
 kind_text Ring = codes "ring "
 kind_text Domain = codes "domain "
@@ -26,9 +27,11 @@ abbrev pub char_text : Bool → List ℕ
 char_text true = codes " char 0"
 char_text false = []
 
+-- a declaration of a sort
 abbrev pub sort_text : Sort → List ℕ
 sort_text sort = kind_text sort.kind ++ sort.name ++ char_text sort.char0 ++ codes ".\n"
 
+-- a declaration of a morphism
 abbrev pub hom_text : File → HomDecl → List ℕ
 hom_text file hom =
     codes "hom " ++ hom.name ++ codes " : " ++ sort_name file hom.from ++ codes " -> " ++ sort_name file hom.to
@@ -49,6 +52,7 @@ abbrev pub relation_text : Bool → List ℕ
 relation_text true = codes " <> "
 relation_text false = codes " = "
 
+-- a hypothesis
 abbrev pub hyp_text : File → Hyp → List ℕ
 hyp_text file hyp =
     codes "hyp " ++ hyp.name ++ codes " : " ++ term_text file hyp.equation.left ++ relation_text hyp.nonzero
@@ -58,15 +62,18 @@ hyp_text file hyp =
 abbrev pub use_text : File → Use → List ℕ
 use_text file used = under file used.path (hyp_at file used.hyp).name
 
+-- the hypotheses that a goal uses: none, or a list
 abbrev pub uses_text : File → List Use → List ℕ
 uses_text file uses = listed (codes " using ") (codes ", ") (use_text file) uses
 
+-- how a goal is decided, with its options
 abbrev pub method_text : File → Method → List ℕ
 method_text file ByRing = codes "ring"
 method_text file ByField = codes "field"
 method_text file (ByNsatz uses power limit) =
     codes "nsatz" ++ uses_text file uses ++ codes " power " ++ decimal power ++ codes " limit " ++ decimal limit
 
+-- a goal
 abbrev pub goal_text : File → Goal → List ℕ
 goal_text file goal =
     codes "goal " ++ term_text file goal.equation.left ++ codes " = " ++ term_text file goal.equation.right

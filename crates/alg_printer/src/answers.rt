@@ -4,7 +4,7 @@ ghost use Rattle.std.specs.Prelude.{◌≡◌, ◌<◌, ◌++◌, [], length, Al
 ghost use Rattle.std.specs.List.{flat_map};
 ghost use Rattle.alg_terms.specs.Members.{uses_of};
 ghost use Rattle.alg_printer.specs.Answers.{conditions_text, constants_text, multiple_text, divisor_text, line_text, step_text, power_text, cert_text, no_text, answer_text};
-ghost use Rattle.alg_printer.specs.Monomials.{goal_atoms, IsAtomOf, IsOver};
+ghost use Rattle.alg_printer.specs.Monomials.{goal_atoms, IsAtomOf, IsOverAtoms};
 ghost use Rattle.alg_printer.specs.Printable.{IsLineOver, IsStepOver, IsCertOver, HasParts};
 ghost use Rattle.alg_printer.specs.Terms.{IsNamed};
 
@@ -57,7 +57,7 @@ fn put_multiple(
     line: u32,
 ) -> Result<(), NoMemory>
     requires known { All (IsAtomOf file.now) (unwrap_or atoms.now []) }
-    requires over { IsOver (unwrap_or atoms.now []) mono.now }
+    requires over { IsOverAtoms (unwrap_or atoms.now []) mono.now }
     ensures { OnOk result (text.new
         ≡ text.old ++ multiple_text file.now (unwrap_or atoms.now []) factor mono.now line) }
 {
@@ -189,7 +189,7 @@ fn put_no(
     right: i128,
 ) -> Result<(), NoMemory>
     requires known { All (IsAtomOf file.now) (unwrap_or atoms.now []) }
-    requires over { IsOver (unwrap_or atoms.now []) at.now }
+    requires over { IsOverAtoms (unwrap_or atoms.now []) at.now }
     ensures { OnOk result (text.new
         ≡ text.old ++ no_text file.now (unwrap_or atoms.now []) at.now left right) }
 {

@@ -2,7 +2,7 @@
 
 ghost use Rattle.std.specs.Prelude.{◌≡◌, ◌<◌, ◌++◌, [], length, All, unwrap_or, IfOk, OnOk};
 ghost use Rattle.alg_terms.specs.Members.{uses_of};
-ghost use Rattle.alg_printer.specs.Monomials.{atom_text, goal_atoms, exponent_text, factors_text, mono_text, atom_at, IsAtomOf, IsOver};
+ghost use Rattle.alg_printer.specs.Monomials.{atom_text, goal_atoms, exponent_text, factors_text, mono_text, atom_at, IsAtomOf, IsOverAtoms};
 
 use crate::NoMemory;
 use crate::names::put_under;
@@ -78,7 +78,7 @@ pub(crate) fn put_monomial(
     mono: &Mono,
 ) -> Result<(), NoMemory>
     requires known { All (IsAtomOf file.now) (unwrap_or atoms.now []) }
-    requires over { IsOver (unwrap_or atoms.now []) mono.now }
+    requires over { IsOverAtoms (unwrap_or atoms.now []) mono.now }
     ensures { OnOk result (text.new
         ≡ text.old ++ mono_text file.now (unwrap_or atoms.now []) mono.now) }
 {
@@ -96,7 +96,7 @@ fn put_factors(
     pairs: &[(u32, u32)],
 ) -> Result<(), NoMemory>
     requires known { All (IsAtomOf file.now) (unwrap_or atoms.now []) }
-    requires over { IsOver (unwrap_or atoms.now []) pairs.now }
+    requires over { IsOverAtoms (unwrap_or atoms.now []) pairs.now }
     ensures { OnOk result (text.new
         ≡ text.old ++ factors_text file.now (unwrap_or atoms.now []) pairs.now) }
 {

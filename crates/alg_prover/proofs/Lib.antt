@@ -1,4 +1,4 @@
 pub mod Answered
+pub mod Examples
 pub mod Printing
-pub mod Trial
 pub mod Verdicts

@@ -12,7 +12,7 @@ use Rattle.alg_mono.specs.FiniteMaps.{Each}
 use Rattle.alg_mono.specs.Mono.{Monomial}
 use Rattle.alg_mono.specs.Monomials.{IsMono}
 use Rattle.alg_mono.specs.Polynomials.{MAX}
-use Rattle.alg_printer.specs.Monomials.{goal_atoms, IsOver}
+use Rattle.alg_printer.specs.Monomials.{goal_atoms, IsOverAtoms}
 use Rattle.alg_printer.specs.Printable.{IsPrintable, HasForm, IsInteger}
 use Rattle.alg_reify.specs.Laws.{NoIsOverTheTable, NoIsWithinRange}
 use Rattle.alg_reify.specs.RingVerdict.{RingVerdict, IsRingVerdict, own_table}
@@ -26,7 +26,7 @@ use Rattle.alg_terms.specs.GoalRules.{IsEquation}
 use Rattle.alg_terms.specs.Members.{uses_of}
 
 -- the atoms of a monomial are among as many
-each_over : (atoms : List Atom) (m : Monomial) → Each (λ k. k < length atoms) m → IsOver atoms m
+each_over : (atoms : List Atom) (m : Monomial) → Each (λ k. k < length atoms) m → IsOverAtoms atoms m
 each_over atoms [] h = All-nil (λ (e : ℕ × ℕ). e.0 < length atoms)
 each_over atoms (e ∷ m) h = All-cons (λ (e : ℕ × ℕ). e.0 < length atoms) e m h.0 (each_over atoms m h.1)
 
@@ -73,7 +73,7 @@ no_is_printable over within file goal at left right is by_ring mono verdict =
         record {
           canonical = mono;
           over =
-              subst (λ atoms. IsOver atoms at) (sym (atoms_by_ring file goal by_ring verdict.0.0))
+              subst (λ atoms. IsOverAtoms atoms at) (sym (atoms_by_ring file goal by_ring verdict.0.0))
               (each_over (own_table file goal.equation) at (over file goal.equation at left right verdict));
         },
         integer left numbers.0,

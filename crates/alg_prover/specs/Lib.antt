@@ -1,3 +1,3 @@
 pub mod Answers
+pub mod Examples
 pub mod Laws
-pub mod Trial

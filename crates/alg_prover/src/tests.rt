@@ -2,7 +2,7 @@
 
 ghost use Rattle.std.specs.Prelude.{◌≡◌, IfOk, pos};
 ghost use Rattle.alg_reify.specs.Tried.{tried};
-ghost use Rattle.alg_prover.specs.Trial.{trial, tried_goal};
+ghost use Rattle.alg_prover.specs.Examples.{example, example_goal};
 
 use crate::laws::{no_differs, one_answer, proved_is_right};
 use crate::{NoMemory, answers};
@@ -31,7 +31,7 @@ fn side(alloc: Global, c: u64) -> Result<Term, NoMemory>
 
 // (3*x)^2*x + c = (3*x)^2*x + d by ring
 fn goal(alloc: Global, c: u64, d: u64) -> Result<Goal, NoMemory>
-    ensures { IfOk result (λ goal. goal ≡ tried_goal (pos c) (pos d)) }
+    ensures { IfOk result (λ goal. goal ≡ example_goal (pos c) (pos d)) }
 {
     let left = side(alloc, c)?;
     let right = side(alloc, d)?;
@@ -46,7 +46,7 @@ fn goal(alloc: Global, c: u64, d: u64) -> Result<Goal, NoMemory>
 }
 
 fn goals(alloc: Global) -> Result<Seq<Goal>, NoMemory>
-    ensures { IfOk result (λ goals. goals ≡ trial.goals) }
+    ensures { IfOk result (λ goals. goals ≡ example.goals) }
 {
     let mut goals = Seq::from_vec(Vec::new(alloc));
     goals.push(goal(alloc, 5, 5)?)?;
@@ -55,7 +55,7 @@ fn goals(alloc: Global) -> Result<Seq<Goal>, NoMemory>
 }
 
 fn sorts(alloc: Global) -> Result<Seq<Sort>, NoMemory>
-    ensures { IfOk result (λ sorts. sorts ≡ trial.sorts) }
+    ensures { IfOk result (λ sorts. sorts ≡ example.sorts) }
 {
     let mut sorts = Seq::from_vec(Vec::new(alloc));
     sorts.push(Sort {
@@ -67,7 +67,7 @@ fn sorts(alloc: Global) -> Result<Seq<Sort>, NoMemory>
 }
 
 fn vars(alloc: Global) -> Result<Seq<VarDecl>, NoMemory>
-    ensures { IfOk result (λ vars. vars ≡ trial.vars) }
+    ensures { IfOk result (λ vars. vars ≡ example.vars) }
 {
     let mut vars = Seq::from_vec(Vec::new(alloc));
     vars.push(VarDecl {
@@ -78,7 +78,7 @@ fn vars(alloc: Global) -> Result<Seq<VarDecl>, NoMemory>
 }
 
 fn order(alloc: Global) -> Result<Seq<Statement>, NoMemory>
-    ensures { IfOk result (λ order. order ≡ trial.order) }
+    ensures { IfOk result (λ order. order ≡ example.order) }
 {
     let mut order = Seq::from_vec(Vec::new(alloc));
     order.push(Statement::Sort(0))?;
@@ -88,8 +88,8 @@ fn order(alloc: Global) -> Result<Seq<Statement>, NoMemory>
     Ok(order)
 }
 
-fn tried_file(alloc: Global) -> Result<File, NoMemory>
-    ensures { IfOk result (λ file. file ≡ trial) }
+fn example_file(alloc: Global) -> Result<File, NoMemory>
+    ensures { IfOk result (λ file. file ≡ example) }
 {
     let sorts = sorts(alloc)?;
     let vars = vars(alloc)?;
@@ -107,7 +107,7 @@ fn tried_file(alloc: Global) -> Result<File, NoMemory>
 
 #[test]
 fn each_goal_has_its_own_answer(rt: HostRuntime) -> Result<(), Fail> {
-    let file = tried_file(rt.alloc())?;
+    let file = example_file(rt.alloc())?;
     let answers = answers(rt.alloc(), &file)?;
     match answers.as_slice() {
         [

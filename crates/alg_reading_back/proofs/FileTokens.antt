@@ -23,6 +23,7 @@ use Rattle.alg_reader.proofs.Found.{all_split}
 use Rattle.alg_printer.specs.Names.{sort_name, var_name}
 use Rattle.alg_printer.specs.Text.{text_of, IsStatementOf}
 use Rattle.alg_printer.proofs.Declared.{statements_are_of}
+use Rattle.alg_reading_back.specs.ReadingBack.{unanswered}
 use Rattle.alg_reading_back.proofs.LaidTerms.{line_feed, space, sign, word, name}
 use Rattle.alg_reading_back.proofs.LaidMethods.{method_pieces}
 use Rattle.alg_reading_back.proofs.LaidStatements.{laid_sides, laid_statement, goal_front, kind_word, char_pieces, name_pieces, dot, file_pieces}
@@ -158,9 +159,9 @@ pub statement_tokens : CutFromAnywhere → (file : File) → IsValid file →
     (before after : List Statement) (s : Statement) → file.order ≡ before ++ (s ∷ after) →
     let at = width (file_pieces file before) in
     let pieces = (laid_statement file s).pieces in
-    TokensTo (text_of file []) (at - 1) (tokens_of at pieces) (at + width pieces)
+    TokensTo (text_of file (unanswered file)) (at - 1) (tokens_of at pieces) (at + width pieces)
 statement_tokens law file valid before after s order =
-    let text = text_of file [] in
+    let text = text_of file (unanswered file) in
     let at = width (file_pieces file before) in
     let pieces = (laid_statement file s).pieces in
     let rest = line_feed ∷ file_pieces file after in
@@ -176,15 +177,15 @@ statement_tokens law file valid before after s order =
 
 -- behind the last statement the text ends
 pub text_ends : CutFromAnywhere → (file : File) → IsValid file →
-    IsNext (text_of file []) (width (file_pieces file file.order) - 1) (Ok (record {
+    IsNext (text_of file (unanswered file)) (width (file_pieces file file.order) - 1) (Ok (record {
       kind = kinds.End;
-      start = length (text_of file []);
-      stop = length (text_of file []);
+      start = length (text_of file (unanswered file));
+      stop = length (text_of file (unanswered file));
     }))
 text_ends law file valid =
     let pieces = file_pieces file file.order in
     let P : List Piece → Type 0 = λ ps. AllStand ps [] in
-    tokens_behind law (text_of file []) pieces [] (lines_end file file.order)
+    tokens_behind law (text_of file (unanswered file)) pieces [] (lines_end file file.order)
     (sym (spelled_file file valid) ∙ ap spell (sym (append-nil pieces)))
     (subst P (sym (append-nil pieces)) (stand_file file valid))
 
@@ -192,14 +193,14 @@ text_ends law file valid =
 
 -- the text is as long as its pieces are wide
 pub text_width : (file : File) → IsValid file →
-    length (text_of file []) ≡ width (file_pieces file file.order)
+    length (text_of file (unanswered file)) ≡ width (file_pieces file file.order)
 text_width file valid =
     ap length (sym (spelled_file file valid)) ∙ spelled_width (file_pieces file file.order)
 
 -- a piece of the file stands in the text at its place
 pub piece_bytes : (file : File) → IsValid file → (front back : List Piece) (piece : Piece) →
     file_pieces file file.order ≡ front ++ (piece ∷ back) →
-    take (length (bytes_of piece)) (drop (width front) (text_of file [])) ≡ bytes_of piece
+    take (length (bytes_of piece)) (drop (width front) (text_of file (unanswered file))) ≡ bytes_of piece
 piece_bytes file valid front back piece e =
     ap (λ text. take (length (bytes_of piece)) (drop (width front) text))
     (sym (spelled_file file valid) ∙ ap spell e)
@@ -209,13 +210,13 @@ piece_bytes file valid front back piece e =
 pub statement_piece_bytes : (file : File) → IsValid file → (before after : List Statement)
     (s : Statement) → file.order ≡ before ++ (s ∷ after) → (front back : List Piece) (piece : Piece) →
     (laid_statement file s).pieces ≡ front ++ (piece ∷ back) →
-    take (length (bytes_of piece)) (drop (width (file_pieces file before) + width front) (text_of file []))
-    ≡ bytes_of piece
+    let at = width (file_pieces file before) + width front in
+    take (length (bytes_of piece)) (drop at (text_of file (unanswered file))) ≡ bytes_of piece
 statement_piece_bytes file valid before after s order front back piece e =
     let rest = line_feed ∷ file_pieces file after in
     let lines = file_pieces file before in
     let whole : file_pieces file file.order ≡ (lines ++ front) ++ (piece ∷ (back ++ rest)) =
     around file before after s order ∙ ap (λ ps. lines ++ ps) (ap (λ ps. ps ++ rest) e
     ∙ append_assoc front (piece ∷ back) rest) ∙ sym (append_assoc lines front (piece ∷ (back ++ rest))) in
-    ap (λ n. take (length (bytes_of piece)) (drop n (text_of file []))) (sym (width_append lines front))
+    ap (λ n. take (length (bytes_of piece)) (drop n (text_of file (unanswered file)))) (sym (width_append lines front))
     ∙ piece_bytes file valid (lines ++ front) (back ++ rest) piece whole

@@ -23,7 +23,7 @@ use Rattle.alg_typing.specs.NameFaults.{name_faults}
 use Rattle.alg_typing.specs.Reading.{first_fault, no_statements}
 use Rattle.alg_typing.specs.SortFaults.{sort_faults}
 use Rattle.alg_printer.specs.Text.{text_of, statement_text, IsStatementOf}
-use Rattle.alg_reading_back.specs.ReadingBack.{most_open, OpensFew}
+use Rattle.alg_reading_back.specs.ReadingBack.{unanswered, most_open, OpensFew}
 use Rattle.alg_reading_back.proofs.ClosedFronts.{IsClosedBy, front_closed}
 use Rattle.alg_reading_back.proofs.DeclarationsBack.{sort_taken, hom_taken}
 use Rattle.alg_reading_back.proofs.EvenPieces.{HasFewOpen, even_standing, few_open, few_pass}
@@ -85,7 +85,7 @@ faultless g next text raw shallow taken =
 
 module _ (law : CutFromAnywhere) (file : File) (valid : IsValid file) (few : OpensFew file) where
   abbrev pub text : List ℕ
-  text = text_of file []
+  text = text_of file (unanswered file)
 
   abbrev pub pieces_of : Statement → List Piece
   pieces_of s = (laid_statement file s).pieces
@@ -107,20 +107,20 @@ module _ (law : CutFromAnywhere) (file : File) (valid : IsValid file) (few : Ope
   }
 
   pub few_there : (before after : List Statement) (s : Statement) → file.order ≡ before ++ (s ∷ after) →
-      most_open 0 (statement_text file [] s) ≤ MAX_OPEN
+      most_open 0 (statement_text file (unanswered file) s) ≤ MAX_OPEN
   few_there before after s split =
-      let P : Statement → Type 0 = λ s. most_open 0 (statement_text file [] s) ≤ MAX_OPEN in
+      let P : Statement → Type 0 = λ s. most_open 0 (statement_text file (unanswered file) s) ≤ MAX_OPEN in
       let all = subst (AllByRecursion P) split (recursion_from_All P file.order few) in
       (all_split P before (s ∷ after) all).1.0
 
   -- the parentheses of its tokens are those of its text
-  tokens_few : (s : Statement) (at : ℕ) → IsStatementOf file s → most_open 0 (statement_text file [] s) ≤ MAX_OPEN →
-      HasFewOpen 0 (tokens_of at (pieces_of s))
+  tokens_few : (s : Statement) (at : ℕ) → IsStatementOf file s →
+      most_open 0 (statement_text file (unanswered file) s) ≤ MAX_OPEN → HasFewOpen 0 (tokens_of at (pieces_of s))
   tokens_few s at is low =
       let rest = spell (line_feed ∷ []) in
       let even = even_standing (pieces_of s) (10 ∷ [])
       (stand_statement file s valid is (10 ∷ []) (10, [], refl, refl)) in
-      let whole : most_open 0 (spell (pieces_of s) ++ rest) ≡ most_open 0 (statement_text file [] s) =
+      let whole : most_open 0 (spell (pieces_of s) ++ rest) ≡ most_open 0 (statement_text file (unanswered file) s) =
       ap (most_open 0) (sym (spell_append (pieces_of s) (line_feed ∷ [])) ∙ spelled_statement file s is) in
       few_open 0 at (pieces_of s) rest even (omega (arith, whole, low))
 

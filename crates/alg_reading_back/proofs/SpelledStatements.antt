@@ -1,7 +1,8 @@
 -- The pieces of a statement, with the line feed behind it, spell its text, and so do those of a file.
-use Rattle.std.proofs.Common.{◌≡◌, ℕ, Bool, true, false, List, [], ◌∷◌, ◌++◌, flat_map, map, codes, decimal, refl, ap, sym, ◌∙◌, arith, append-nil, append_assoc}
+use Rattle.std.proofs.Common.{◌≡◌, ℕ, Bool, true, false, Option, None, List, [], ◌∷◌, ◌++◌, flat_map, map, codes, decimal, refl, ap, sym, ◌∙◌, arith, append-nil, append_assoc}
 use Rattle.std.specs.List.{AllByRecursion}
 use Rattle.std.proofs.lemmas.Fmt.{decimal_digit}
+use Rattle.std.proofs.Math.ListN.{get_or-map}
 use Rattle.std.proofs.lemmas.List.Elements.{recursion_from_All}
 use Rattle.alg_terms.specs.declared.declarations.HomDecl.{HomDecl}
 use Rattle.alg_terms.specs.declared.declarations.Kind.{Kind}
@@ -13,9 +14,10 @@ use Rattle.alg_terms.specs.declared.file.Statement.TheVariants as statement
 use Rattle.alg_terms.specs.declared.goals.Equation.{Equation}
 use Rattle.alg_terms.specs.declared.goals.Goal.{Goal}
 use Rattle.alg_terms.specs.declared.goals.Hyp.{Hyp}
-use Rattle.alg_terms.specs.Members.{sort_at, hom_at, hyp_at, goal_at, sort_of_var}
+use Rattle.alg_terms.specs.Members.{no_goal, sort_at, hom_at, hyp_at, goal_at, sort_of_var}
 use Rattle.alg_terms.specs.Order.{numbers_from}
 use Rattle.alg_terms.specs.Valid.{IsValid}
+use Rattle.alg_lines.specs.declared.answer.Answer.{Answer}
 use Rattle.alg_tokens.specs.declared.token.Sign.TheVariants as signs
 use Rattle.alg_tokens.specs.declared.token.Word.TheVariants as words
 use Rattle.alg_tokens.specs.Pieces.{Piece}
@@ -23,8 +25,10 @@ use Rattle.alg_tokens.proofs.Neighbours.{spell, spell_append}
 use Rattle.alg_printer.specs.Names.{sort_name, var_name}
 use Rattle.alg_printer.specs.Statements.{kind_text, char_text, sort_text, hom_text, names_text, vars_text, relation_text, hyp_text, goal_text, method_text}
 use Rattle.alg_printer.specs.Terms.{term_text}
-use Rattle.alg_printer.specs.Text.{text_of, statement_text, IsStatementOf}
+use Rattle.alg_printer.specs.Answers.{optional_text}
+use Rattle.alg_printer.specs.Text.{text_of, statement_text, answer_at, IsStatementOf}
 use Rattle.alg_printer.proofs.Declared.{statements_are_of}
+use Rattle.alg_reading_back.specs.ReadingBack.{unanswered}
 use Rattle.alg_reading_back.proofs.LaidTerms.{laid, space, line_feed, sign, word, name}
 use Rattle.alg_reading_back.proofs.LaidMethods.{method_pieces}
 use Rattle.alg_reading_back.proofs.LaidStatements.{laid_sort, laid_hom, laid_vars, laid_sides, laid_hyp, laid_goal, laid_statement, goal_front, relation_sign, name_pieces, char_pieces, kind_word, dot, file_pieces}
@@ -169,24 +173,30 @@ spelled_goal file goal =
 
 -- ---- all statements
 
+-- no goal is answered
+no_answer : (file : File) (i : ℕ) → answer_at (unanswered file) i ≡ None
+no_answer file i = let none : Goal → Option Answer = λ goal. None in get_or-map none file.goals i no_goal
+
 pub spelled_statement : (file : File) (s : Statement) → IsStatementOf file s →
-    spell (line_pieces (laid_statement file s).pieces) ≡ statement_text file [] s
+    spell (line_pieces (laid_statement file s).pieces) ≡ statement_text file (unanswered file) s
 spelled_statement file (statement.Sort s) of = spelled_sort (sort_at file s)
 spelled_statement file (statement.Hom f) of = spelled_hom file (hom_at file f)
 spelled_statement file (statement.Vars first count) of = spelled_vars file first count
 spelled_statement file (statement.Hyp h) of = spelled_hyp file (hyp_at file h)
 spelled_statement file (statement.Goal i) of =
-    spelled_goal file (goal_at file i) ∙ sym (append-nil (goal_text file (goal_at file i)))
+    let goal = goal_at file i in
+    spelled_goal file goal ∙ sym (append-nil (goal_text file goal))
+    ∙ ap (λ answer. goal_text file goal ++ optional_text file goal answer) (sym (no_answer file i))
 
 spelled_statements : (file : File) (order : List Statement) → AllByRecursion (IsStatementOf file) order →
-    spell (file_pieces file order) ≡ flat_map (statement_text file []) order
+    spell (file_pieces file order) ≡ flat_map (statement_text file (unanswered file)) order
 spelled_statements file [] all = refl
 spelled_statements file (s ∷ order) all =
     spell_append (line_pieces (laid_statement file s).pieces) (file_pieces file order)
     ∙ ap (λ bs. bs ++ spell (file_pieces file order)) (spelled_statement file s all.0)
-    ∙ ap (λ bs. statement_text file [] s ++ bs) (spelled_statements file order all.1)
+    ∙ ap (λ bs. statement_text file (unanswered file) s ++ bs) (spelled_statements file order all.1)
 
 -- the pieces of a file spell its text
-pub spelled_file : (file : File) → IsValid file → spell (file_pieces file file.order) ≡ text_of file []
+pub spelled_file : (file : File) → IsValid file → spell (file_pieces file file.order) ≡ text_of file (unanswered file)
 spelled_file file valid = spelled_statements file file.order
     (recursion_from_All (IsStatementOf file) file.order (statements_are_of file valid))

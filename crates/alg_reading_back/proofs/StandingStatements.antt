@@ -24,6 +24,7 @@ use Rattle.alg_printer.specs.Names.{sort_name, var_name}
 use Rattle.alg_printer.specs.Text.{text_of, IsStatementOf}
 use Rattle.alg_printer.proofs.Declared.{statements_are_of}
 use Rattle.alg_reader.proofs.Found.{all_split}
+use Rattle.alg_reading_back.specs.ReadingBack.{unanswered}
 use Rattle.alg_reading_back.proofs.LaidTerms.{laid, space, line_feed, sign, word, name, numeral}
 use Rattle.alg_reading_back.proofs.LaidStatements.{laid_sort, laid_hom, laid_vars, laid_statement, name_pieces, char_pieces, kind_word, dot, file_pieces}
 use Rattle.alg_reading_back.proofs.SpelledStatements.{line_pieces, spelled_file}
@@ -172,7 +173,7 @@ stand_file file valid = stand_statements file file.order valid
     (recursion_from_All (IsStatementOf file) file.order (statements_are_of file valid)) []
 
 -- the text of a file is cut into its pieces
-pub cut_file : (file : File) → IsValid file → IsCut (file_pieces file file.order) (text_of file []) []
+pub cut_file : (file : File) → IsValid file → IsCut (file_pieces file file.order) (text_of file (unanswered file)) []
 cut_file file valid =
     let P : List ℕ → Type 0 = λ bs. IsCut (file_pieces file file.order) bs [] in
     subst P (append-nil (spell (file_pieces file file.order)) ∙ spelled_file file valid)

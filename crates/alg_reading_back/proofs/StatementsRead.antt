@@ -23,7 +23,7 @@ use Rattle.alg_reader.specs.Statements.{IsStatement, IsRead}
 use Rattle.alg_reader.specs.Tokens.{Unread, unread_today, GoesPast, TokensTo}
 use Rattle.alg_reader.specs.TooDeep.{kept, kept_sides, kept_kind, first_too_deep, first_of_sides, first_of_statement}
 use Rattle.alg_printer.specs.Text.{statement_text, IsStatementOf}
-use Rattle.alg_reading_back.specs.ReadingBack.{most_open, IsReadToday}
+use Rattle.alg_reading_back.specs.ReadingBack.{unanswered, most_open, IsReadToday}
 use Rattle.alg_reading_back.proofs.LaidTerms.{line_feed, laid}
 use Rattle.alg_reading_back.proofs.LaidStatements.{laid_statement}
 use Rattle.alg_reading_back.proofs.DerivedStatements.{sort_derived, hom_derived}
@@ -106,8 +106,8 @@ statement_begins file (statement.Goal i) at = (_, _, refl, refl)
 
 -- today's reading goes past a statement that can be read today
 pub statement_passed : (file : File) → IsValid file → IsReadToday file → (s : Statement) → IsStatementOf file s →
-    flat_map bytes_of ((laid_statement file s).pieces ++ (line_feed ∷ [])) ≡ statement_text file [] s →
-    most_open 0 (statement_text file [] s) ≤ MAX_OPEN → (at : ℕ) →
+    flat_map bytes_of ((laid_statement file s).pieces ++ (line_feed ∷ [])) ≡ statement_text file (unanswered file) s →
+    most_open 0 (statement_text file (unanswered file) s) ≤ MAX_OPEN → (at : ℕ) →
     GoesPast unread_today 0 None (tokens_of at (laid_statement file s).pieces)
 statement_passed file valid today s is spells few at =
     let pieces = (laid_statement file s).pieces in

@@ -28,6 +28,7 @@ use Rattle.alg_tokens.proofs.Leads.{word_spelled}
 use Rattle.alg_tokens.proofs.Neighbours.{spell, AllStand}
 use Rattle.alg_tokens.proofs.Standing.{Stands}
 use Rattle.alg_printer.specs.Text.{text_of}
+use Rattle.alg_reading_back.specs.ReadingBack.{unanswered}
 use Rattle.alg_reading_back.proofs.LaidStatements.{file_pieces}
 use Rattle.alg_reading_back.proofs.SpelledStatements.{spelled_file}
 use Rattle.alg_reading_back.proofs.StandingStatements.{stand_file}
@@ -109,7 +110,7 @@ pieces_utf8 (piece ∷ pieces) rest (stands, stand) =
     IsUtf8-append (bytes_of piece) (spell pieces) (piece_utf8 piece (spell pieces ++ rest) stands)
     (pieces_utf8 pieces rest stand)
 
-pub text_utf8 : (file : File) → IsValid file → IsUtf8 (text_of file [])
+pub text_utf8 : (file : File) → IsValid file → IsUtf8 (text_of file (unanswered file))
 text_utf8 file valid =
     subst IsUtf8 (spelled_file file valid)
     (pieces_utf8 (file_pieces file file.order) [] (stand_file file valid))

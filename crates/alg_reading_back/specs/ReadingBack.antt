@@ -1,5 +1,6 @@
 -- The law that the canonical text of a file reads back as the file.
-use Rattle.std.specs.Prelude.{◌≡◌, ◌≤◌, ◌+◌, ◌-◌, ◌==◌, ℕ, if◌then◌else◌, max, List, [], ◌∷◌, All, Ok}
+use Rattle.std.specs.Prelude.{◌≡◌, ◌≤◌, ◌+◌, ◌-◌, ◌==◌, ℕ, if◌then◌else◌, max, List, [], ◌∷◌, All, Option, None, Ok, map}
+use Rattle.alg_lines.specs.declared.answer.Answer.{Answer}
 use Rattle.alg_printer.specs.Text.{text_of, statement_text}
 use Rattle.alg_reader.specs.Tokens.{none_unread}
 use Rattle.alg_terms.specs.declared.file.File.{File}
@@ -26,9 +27,13 @@ abbrev pub most_open : ℕ → List ℕ → ℕ
 most_open depth [] = depth
 most_open depth (byte ∷ text) = max depth (most_open (open_with depth byte) text)
 
+-- one absent answer for each goal
+abbrev pub unanswered : File → List (Option Answer)
+unanswered file = map (λ goal. None) file.goals
+
 -- no statement of the file's text has more parentheses open at once than may be
 abbrev pub OpensFew : File → Type 0
-OpensFew file = All (λ s. most_open 0 (statement_text file [] s) ≤ MAX_OPEN) file.order
+OpensFew file = All (λ s. most_open 0 (statement_text file (unanswered file) s) ≤ MAX_OPEN) file.order
 
 -- each of its statements can be read today: it has no hypotheses, and its goals are by ring
 pub record IsReadToday (file : File) : Type 0 where
@@ -37,12 +42,13 @@ pub record IsReadToday (file : File) : Type 0 where
 
 -- ---- the law
 
--- the text of a valid file without answers reads as the file by the whole grammar, the words included that can't be
+-- the text of a valid file, none of its goals answered, reads as the file by the whole grammar, the words included that can't be
 -- read yet
 abbrev pub IsWrittenByGrammar : Type 0
 IsWrittenByGrammar = (file : File) → IsValid file → OpensFew file →
-    IsReadingWith none_unread (text_of file []) (Ok file)
+    IsReadingWith none_unread (text_of file (unanswered file)) (Ok file)
 
 -- and where it can be read today, its text reads as the file
 abbrev pub ReadsBack : Type 0
-ReadsBack = (file : File) → IsValid file → OpensFew file → IsReadToday file → IsReadingOf (text_of file []) (Ok file)
+ReadsBack = (file : File) → IsValid file → OpensFew file → IsReadToday file →
+    IsReadingOf (text_of file (unanswered file)) (Ok file)

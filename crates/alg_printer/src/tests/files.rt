@@ -3,7 +3,7 @@
 ghost use Rattle.std.specs.Prelude.{◌≡◌, IfOk};
 ghost use Rattle.alg_terms.specs.Members.{uses_of};
 ghost use Rattle.alg_terms.specs.SmallFile.{small, inverse_is_itself, image_of_square};
-ghost use Rattle.alg_printer.specs.Trial.{inverse_answer, image_answer, one_line, one_step};
+ghost use Rattle.alg_printer.specs.Examples.{inverse_answer, image_answer, one_line, one_step};
 
 use crate::{NoMemory, file_text};
 use alg_lines::{Answer, Cert, GoalStep, Line};

@@ -1,7 +1,7 @@
 //! Terms and atoms in print.
 
 ghost use Rattle.std.specs.Prelude.{◌<◌, IfOk};
-ghost use Rattle.alg_printer.specs.Trial.{HasLetters, IsOfLetters};
+ghost use Rattle.alg_printer.specs.Examples.{HasLetters, IsOfLetters};
 
 use crate::NoMemory;
 use crate::monomials::{put_atom, put_exponent};

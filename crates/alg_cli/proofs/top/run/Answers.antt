@@ -14,7 +14,8 @@ returns-then-eq-clause-written g c =
     let u = g.U.Universe in
     let left = g.S.Source.left c.args.source.now in
     let is : c.of-command.result ≡ command.Usage = search rules in
-    let reply : IsReply u command.Usage left (codes "usage\n") Usage = record { replies = usage_reply u [] refl; fits = tt } in
+    let reply : IsReply u command.Usage left (codes "usage\n") Usage =
+    record { replies = usage_reply u [] refl; fits = tt } in
     writes_by_status (IsReply u (command_of c.args.words.now) left) Usage c.write_reply.result _ (codes "usage\n") _
     (λ failure. failure)
     (subst (λ k. IsReply u k left (codes "usage\n") Usage) (sym is ∙ c.of-command.ensures) reply) c.write_reply.ensures

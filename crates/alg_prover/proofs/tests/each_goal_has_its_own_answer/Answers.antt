@@ -1,4 +1,4 @@
-use Rattle.alg_prover.proofs.Trial.{is_valid, are_by_ring}
+use Rattle.alg_prover.proofs.Examples.{is_valid, are_by_ring}
 use Rattle.alg_prover.proofs.tests.each_goal_has_its_own_answer.Goals as goal
 
 -- the file is the one that is tried

@@ -1,6 +1,6 @@
 use Rattle.std.proofs.Common.{◌≡◌, [], ◌∷◌, Some}
 use Rattle.alg_lines.specs.declared.answer.Answer.{Answer}
-use Rattle.alg_printer.proofs.Trial.{is_valid, are_printable}
+use Rattle.alg_printer.proofs.Examples.{is_valid, are_printable}
 use Rattle.alg_printer.proofs.tests.files.a_file_is_printed_with_its_answers.Goals as goal
 
 -- the file is the small one, and the answers are those of the trial

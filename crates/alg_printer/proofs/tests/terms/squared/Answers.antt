@@ -1,5 +1,5 @@
 use Rattle.std.proofs.Common.{sym, subst}
-use Rattle.alg_printer.specs.Trial.{IsOfLetters}
+use Rattle.alg_printer.specs.Examples.{IsOfLetters}
 use Rattle.alg_printer.proofs.Letters.{power}
 use Rattle.alg_printer.proofs.tests.terms.squared.Goals as goal
 

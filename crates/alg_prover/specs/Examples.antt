@@ -1,4 +1,4 @@
--- What the answers are tried on: with R and x for its two names, and t for (3*x)^2*x, the file is
+-- An example that tests alone cite: with R and x for its two names, and t for (3*x)^2*x, the file is
 --     ring R.  var x : R.  goal t + 5 = t + 5 by ring.  goal t + 5 = t + 6 by ring.
 use Rattle.std.specs.Prelude.{ℤ, false, [], ◌∷◌, pos}
 use Rattle.alg_terms.specs.declared.declarations.Kind.TheVariants.{Ring}
@@ -10,16 +10,16 @@ use Rattle.alg_terms.specs.SmallFile.{name}
 use Rattle.alg_reify.specs.Tried.{tried}
 
 -- t + c = t + d
-abbrev pub tried_goal : ℤ → ℤ → Goal
-tried_goal c d =
+abbrev pub example_goal : ℤ → ℤ → Goal
+example_goal c d =
     record { equation = record { sort = 0; left = tried (pos 3) 2 c; right = tried (pos 3) 2 d }; method = ByRing }
 
-abbrev pub trial : File
-trial = record {
+abbrev pub example : File
+example = record {
   sorts = record { name = name 0; kind = Ring; char0 = false } ∷ [];
   homs = [];
   vars = record { name = name 1; sort = 0 } ∷ [];
   hyps = [];
-  goals = tried_goal (pos 5) (pos 5) ∷ tried_goal (pos 5) (pos 6) ∷ [];
+  goals = example_goal (pos 5) (pos 5) ∷ example_goal (pos 5) (pos 6) ∷ [];
   order = statement.Sort 0 ∷ statement.Vars 0 1 ∷ statement.Goal 0 ∷ statement.Goal 1 ∷ [];
 }

@@ -1,4 +1,4 @@
--- What the printing is tried on: terms over a few names, and answers to the goals of the small file.
+-- Examples that tests alone cite: terms over a few names, and answers to the goals of the small file.
 use Rattle.std.specs.Prelude.{◌≡◌, List, [], ◌∷◌, length, pos, negsuc, Option, Some}
 use Rattle.alg_lines.specs.declared.answer.Answer.{Answer}
 use Rattle.alg_lines.specs.declared.answer.Answer.TheVariants.{Proved, Certified}
@@ -17,18 +17,22 @@ HasLetters file = (length file.vars ≡ 3) × (length file.homs ≡ 2)
 abbrev pub IsOfLetters : Term → Type 0
 IsOfLetters t = (file : File) → HasLetters file → IsNamed file t
 
--- answers to the goals of the small file: one with a condition, and one with a certificate of one line and one step
+-- an answer to the first goal of the small file, with a condition
 abbrev pub inverse_answer : Answer
 inverse_answer = Proved (Var 1 ∷ [])
 
+-- the line of a certificate
 abbrev pub one_line : List Line
 one_line = record { a = pos 1; m = []; i = 1; b = negsuc 0; n = []; j = 1; d = pos 2 } ∷ []
 
+-- its step
 abbrev pub one_step : List GoalStep
 one_step = record { a = pos 1; b = pos 1; n = []; j = 2; d = pos 1 } ∷ []
 
+-- an answer to the second goal, by a certificate with a constant
 abbrev pub image_answer : Answer
 image_answer = Certified (pos 2 ∷ []) (record { power = 1; lines = one_line; steps = one_step })
 
+-- both answers
 abbrev pub small_answers : List (Option Answer)
 small_answers = Some inverse_answer ∷ Some image_answer ∷ []

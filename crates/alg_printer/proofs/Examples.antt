@@ -17,7 +17,7 @@ use Rattle.alg_terms.proofs.SmallFile.{small_is_valid}
 use Rattle.alg_printer.specs.Monomials.{goal_atoms}
 use Rattle.alg_printer.specs.Printable.{ArePrintable, IsPrintable, IsNumeral, IsMonomialOver, IsLineOver, IsStepOver}
 use Rattle.alg_printer.specs.Text.{answer_at}
-use Rattle.alg_printer.specs.Trial.{inverse_answer, image_answer, one_line, one_step, small_answers}
+use Rattle.alg_printer.specs.Examples.{inverse_answer, image_answer, one_line, one_step, small_answers}
 
 variable_is : IsTerm small (Var 1)
 unfolding fold_term EachNode
@@ -56,11 +56,12 @@ unit = search rules
 line : (atoms : List Atom) → All (IsLineOver atoms) one_line
 line atoms =
     All-cons (IsLineOver atoms) _ []
-    (record { a = unit; m = one atoms; b = lit< tt; n = one atoms; d = two }) (All-nil (IsLineOver atoms))
+    (record { a = unit; m = one atoms; i = lit≤ tt; b = lit< tt; n = one atoms; j = lit≤ tt; d = two })
+    (All-nil (IsLineOver atoms))
 
 step : (atoms : List Atom) → All (IsStepOver atoms) one_step
 step atoms =
-    All-cons (IsStepOver atoms) _ [] (record { a = unit; b = lit< tt; n = one atoms; d = unit })
+    All-cons (IsStepOver atoms) _ [] (record { a = unit; b = lit< tt; n = one atoms; j = lit≤ tt; d = unit })
     (All-nil (IsStepOver atoms))
 
 image : IsPrintable small image_of_square image_answer
@@ -69,6 +70,7 @@ image = record {
   parts = (
     All-cons IsNumeral (pos 2) [] two (All-nil IsNumeral),
     record {
+      power = lit≤ tt;
       lines = line (goal_atoms small image_of_square);
       steps = step (goal_atoms small image_of_square);
     },

@@ -20,16 +20,16 @@ use Rattle.alg_terms.specs.GoalRules.{IsHyp}
 use Rattle.alg_terms.proofs.SmallNames.{spelled}
 use Rattle.alg_terms.proofs.Splits.{EachSplit, each_split}
 use Rattle.alg_reify.proofs.Tried.{tried_is_equation}
-use Rattle.alg_prover.specs.Trial.{tried_goal, trial}
+use Rattle.alg_prover.specs.Examples.{example_goal, example}
 
-counts : HasCounts trial
+counts : HasCounts example
 counts = record { sorts = lit< tt; homs = lit< tt; vars = lit< tt; hyps = lit< tt; goals = lit< tt; order = lit< tt }
 
 -- the names are the first two of the small file
-two_spelled : All IsName (names_of trial)
+two_spelled : All IsName (names_of example)
 two_spelled = All-take IsName 2 (names_of small) spelled
 
-two_apart : AllPairs (λ first later. first ≢ later) (names_of trial)
+two_apart : AllPairs (λ first later. first ≢ later) (names_of example)
 two_apart =
     AllPairs-cons (λ first later. first ≢ later) (name 0) (name 1 ∷ [])
     (All-from_recursion (λ later. name 0 ≢ later) (name 1 ∷ []) (λ h. cc, tt))
@@ -40,9 +40,10 @@ two_apart =
 
 -- both goals are goals of the file
 is_goal : (c d : ℤ) → (pos 0 ≤ℤ c) × (c ≤ℤ MAX_LITERAL) → (pos 0 ≤ℤ d) × (d ≤ℤ MAX_LITERAL) →
-    IsGoal trial (tried_goal c d)
+    IsGoal example (example_goal c d)
 is_goal c d small great =
-    let e = tried_is_equation trial (pos 3) 2 c d (lit< tt) (search rules) (lit≤ tt) small great 0 _ _ refl refl refl in
+    let e =
+    tried_is_equation example (pos 3) 2 c d (lit< tt) (search rules) (lit≤ tt) small great 0 _ _ refl refl refl in
     record { equation = e.0; method = e.1 }
 
 -- members that are among others, each by its place there
@@ -57,10 +58,10 @@ made members others sorts homs vars hyps = record {
 }
 
 abbrev UsesEarlier : List Statement → Statement → Type 0
-UsesEarlier before s = AreAmong (used_by trial s) (declared_by_all before)
+UsesEarlier before s = AreAmong (used_by example s) (declared_by_all before)
 
 -- each side of a goal has the variable twice
-earlier : EachSplit UsesEarlier [] trial.order
+earlier : EachSplit UsesEarlier [] example.order
 unfolding fold_term
     Rattle.alg_terms.specs.declared.term.Term.TheBlock.hidden-the_row-Term-0 denote.Hole.Carrier.hidden
 earlier = (
@@ -77,26 +78,26 @@ earlier = (
   ),
 )
 
-one_var : (k : ℕ) → k < 1 → sort_of_var trial (0 + k) ≡ sort_of_var trial 0
-one_var k below = let none : k ≡ 0 = omega arith in ap (λ w. sort_of_var trial (0 + w)) none
+one_var : (k : ℕ) → k < 1 → sort_of_var example (0 + k) ≡ sort_of_var example 0
+one_var k below = let none : k ≡ 0 = omega arith in ap (λ w. sort_of_var example (0 + w)) none
 
-ordered : IsOrdered trial
+ordered : IsOrdered example
 ordered = record {
   once_rising = refl;
-  one_sorted = All-from_recursion (IsOneSorted trial) trial.order (tt, ((lit≤ tt, one_var), (tt, (tt, tt))));
-  earlier = λ before after statement is. each_split UsesEarlier [] trial.order before after statement earlier is;
+  one_sorted = All-from_recursion (IsOneSorted example) example.order (tt, ((lit≤ tt, one_var), (tt, (tt, tt))));
+  earlier = λ before after statement is. each_split UsesEarlier [] example.order before after statement earlier is;
 }
 
-trial_is_valid : IsValid trial
-trial_is_valid = record {
+example_is_valid : IsValid example
+example_is_valid = record {
   counts = counts;
   spelled = two_spelled;
   distinct = two_apart;
-  sorts = All-from_recursion IsSort trial.sorts (λ h. cc, tt);
-  homs = All-nil (IsHom trial);
-  vars = All-from_recursion (IsVar trial) trial.vars (lit< tt, tt);
-  hyps = All-nil (IsHyp trial);
-  goals = All-from_recursion (IsGoal trial) trial.goals (
+  sorts = All-from_recursion IsSort example.sorts (λ h. cc, tt);
+  homs = All-nil (IsHom example);
+  vars = All-from_recursion (IsVar example) example.vars (lit< tt, tt);
+  hyps = All-nil (IsHyp example);
+  goals = All-from_recursion (IsGoal example) example.goals (
     is_goal (pos 5) (pos 5) (search rules) (search rules),
     (is_goal (pos 5) (pos 6) (search rules) (search rules), tt),
   );
@@ -104,10 +105,10 @@ trial_is_valid = record {
 }
 
 -- what equals this file is valid, and its goals are by ring
-pub is_valid : (file : File) → file ≡ trial → IsValid file
-is_valid file is = subst IsValid (sym is) trial_is_valid
+pub is_valid : (file : File) → file ≡ example → IsValid file
+is_valid file is = subst IsValid (sym is) example_is_valid
 
-pub are_by_ring : (file : File) → file ≡ trial → All (λ goal. goal.method ≡ ByRing) file.goals
+pub are_by_ring : (file : File) → file ≡ example → All (λ goal. goal.method ≡ ByRing) file.goals
 are_by_ring file is =
     let IsByRing : Goal → Type 0 = λ goal. goal.method ≡ ByRing in
-    subst (λ f. All IsByRing f.goals) (sym is) (All-from_recursion IsByRing trial.goals (refl, (refl, tt)))
+    subst (λ f. All IsByRing f.goals) (sym is) (All-from_recursion IsByRing example.goals (refl, (refl, tt)))
