@@ -9,7 +9,7 @@ ghost use Rattle.alg_prover.specs.Answers.{IsAnswer, AreAnswers};
 
 use crate::NoMemory;
 use alg_lines::Answer;
-use alg_ring::{RingAnswer, Stop, decide_ring};
+use alg_ring::{RingAnswer, RingDecision, Stop, decide_ring};
 use alg_terms::{File, Goal, Seq};
 use std::alloc::Global;
 
@@ -39,7 +39,11 @@ fn answer_one(alloc: Global, file: &File, goal: &Goal) -> Result<Answer, NoMemor
     alg_reify::laws::no_is_over_the_table();
     alg_reify::laws::no_is_within_range();
     match decide_ring(alloc, file, &goal.equation) {
-        Ok(decision) => match decision.answer {
+        Ok(RingDecision {
+            answer,
+            left: _left,
+            right: _right,
+        }) => match answer {
             RingAnswer::Proved => Ok(Answer::Proved {
                 conditions: Seq::from_vec(Vec::new(alloc)),
             }),

@@ -1,4 +1,4 @@
-use Rattle.std.proofs.Common.{subst}
+use Rattle.std.proofs.Common.{◌≡◌, subst}
 use Rattle.alg_reify.specs.RingVerdict.{IsRingVerdict}
 use Rattle.alg_ring.specs.declared.decide.RingAnswer.{RingAnswer}
 use Rattle.alg_ring.specs.Answers.{verdict_of}
@@ -6,11 +6,13 @@ use Rattle.alg_prover.proofs.Printing.{no_is_printable}
 use Rattle.alg_prover.proofs.answering.answer_one.Goals as goal
 
 -- the answer no has a monomial over the goal's table and coefficients within the range
-pub returns-in-Ok-No-clause-printable : goal.returns-in-Ok-No-clause-printable
-returns-in-Ok-No-clause-printable c =
+pub returns-in-Ok-clause-printable : goal.returns-in-Ok-clause-printable
+returns-in-Ok-clause-printable c =
     let file = c.args.file.now in
     let goal = c.args.goal.now in
     let Told : RingAnswer → Type 0 = λ answer. IsRingVerdict file goal.equation (verdict_of answer) in
-    no_is_printable c.no_is_over_the_table.ensures c.no_is_within_range.ensures file goal c.in-Ok-No.at
-    c.in-Ok-No.left c.in-Ok-No.right c.requires.goal.equation c.requires.by_ring c.pairs.ensures.sound
-    (subst Told c.in-Ok-No.field-0-is c.in-Ok-No.ensures.answer)
+    let is : c.in-Ok.field-0.answer ≡ RingAnswer.No c.in-No.at c.in-No.left c.in-No.right =
+    cc (c.in-Ok.answer-is, c.in-Ok.field-0-is, c.in-No.is) in
+    no_is_printable c.no_is_over_the_table.ensures c.no_is_within_range.ensures file goal c.in-No.at
+    c.in-No.left c.in-No.right c.requires.goal.equation c.requires.by_ring c.pairs.ensures.sound
+    (subst Told is c.in-Ok.ensures.answer)
