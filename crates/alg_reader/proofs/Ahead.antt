@@ -4,7 +4,7 @@ use Rattle.alg_tokens.specs.declared.token.Token.{Token}
 use Rattle.alg_reader.specs.Kinds.{variant, code}
 use Rattle.alg_reader.specs.Forms.{Rule, Statement, Ring, Sort, Hom, Vars, Hyp, Goal, Method, Use, Sum, Product, Unary, Power, Leaf, Form, a, seq, alt, opt, many, rule, Tree, token, pair, left, right, none, some, end, more, node, spelled}
 use Rattle.alg_reader.specs.Grammar.{grammar, Fits}
-use Rattle.alg_reader.specs.Ahead.{rule_begins, rule_goes_on, nullable, begins, goes_on, Ends, SameHead, Starts, Lacks}
+use Rattle.alg_reader.specs.Ahead.{rule_begins, rule_goes_on, nullable, begins, goes_on, CannotGoOn, SameHead, Starts, Lacks}
 
 pub or_first : (x y : Bool) → x ≡ true → (x || y) ≡ true
 or_first true y h = refl
@@ -124,25 +124,25 @@ or_false false y h = (refl, h)
 
 -- what begins as g does ends f
 pub ends_at : (f g : Form) (t : Token) (ts : List Token) → Disjoint (goes_on f) (begins g) → begins g (code t) ≡ true
-    → Ends f (t ∷ ts)
+    → CannotGoOn f (t ∷ ts)
 ends_at f g t ts apart h = not_true _ (λ k. apart (code t) k h)
 
-ends_null : (f g : Form) (r : List Token) → nullable g ≡ true → Ends (seq f g) r → Ends f r
+ends_null : (f g : Form) (r : List Token) → nullable g ≡ true → CannotGoOn (seq f g) r → CannotGoOn f r
 ends_null f g [] null h = tt
 ends_null f g (t ∷ ts) null h = let k = (or_false (goes_on g (code t)) (nullable g && goes_on f (code t)) h).1 in
     rw null at k
 
 -- in a sequence the first part could end before the second
 pub ends_first : (f g : Form) (w : Tree) (r : List Token) → Disjoint (goes_on f) (begins g) → Fits g w
-    → Ends (seq f g) r → Ends f (spelled w ++ r)
+    → CannotGoOn (seq f g) r → CannotGoOn f (spelled w ++ r)
 ends_first f g w r apart fits h =
     elim (head g w fits) [
-      | inl e ↦ let P : List Token → Type 0 = λ ts. Ends f (ts ++ r) in subst P (sym e.0) (ends_null f g r e.1 h)
-      | inr k ↦ let P : List Token → Type 0 = λ ts. Ends f (ts ++ r) in
+      | inl e ↦ let P : List Token → Type 0 = λ ts. CannotGoOn f (ts ++ r) in subst P (sym e.0) (ends_null f g r e.1 h)
+      | inr k ↦ let P : List Token → Type 0 = λ ts. CannotGoOn f (ts ++ r) in
           subst P (sym k.2) (ends_at f g k.0 (k.1 ++ r) apart k.3)
     ]
 
-pub ends_second : (f g : Form) (r : List Token) → Ends (seq f g) r → Ends g r
+pub ends_second : (f g : Form) (r : List Token) → CannotGoOn (seq f g) r → CannotGoOn g r
 ends_second f g [] h = tt
 ends_second f g (t ∷ ts) h = (or_false _ _ h).0
 
@@ -174,24 +174,24 @@ pub same_lacks : (f : Form) (ts us : List Token) → SameHead ts us → Lacks f 
 same_lacks f ts us h s = let same : s.0 ≡ h.0 = let e = s.2 in let k = h.3 in cc in (h.0, h.2, h.4, rw (← same) s.3)
 
 -- what could go on does not end
-pub ends_clash : (f : Form) (r : List Token) → Ends (opt f) r → Starts f r → ⊥
+pub ends_clash : (f : Form) (r : List Token) → CannotGoOn (opt f) r → Starts f r → ⊥
 ends_clash f [] h s = let e = s.2 in cc
 ends_clash f (t ∷ ts) h s = let same : s.0 ≡ t = let e = s.2 in cc in
     let k : begins f (code t) ≡ true = rw (← same) s.3 in
     let h' = (or_false (begins f (code t)) (goes_on f (code t)) h).0 in cc
 
-pub ends_opt : (f : Form) (r : List Token) → Ends (opt f) r → Ends f r
+pub ends_opt : (f : Form) (r : List Token) → CannotGoOn (opt f) r → CannotGoOn f r
 ends_opt f [] h = tt
 ends_opt f (t ∷ ts) h = (or_false _ _ h).1
 
-pub ends_left : (f g : Form) (r : List Token) → Ends (alt f g) r → Ends f r
+pub ends_left : (f g : Form) (r : List Token) → CannotGoOn (alt f g) r → CannotGoOn f r
 ends_left f g [] h = tt
 ends_left f g (t ∷ ts) h = (or_false _ _ h).0
 
-pub ends_right : (f g : Form) (r : List Token) → Ends (alt f g) r → Ends g r
+pub ends_right : (f g : Form) (r : List Token) → CannotGoOn (alt f g) r → CannotGoOn g r
 ends_right f g [] h = tt
 ends_right f g (t ∷ ts) h = (or_false _ _ h).1
 
-pub ends_rule : (q : Rule) (r : List Token) → Ends (rule q) r → Ends (grammar q) r
+pub ends_rule : (q : Rule) (r : List Token) → CannotGoOn (rule q) r → CannotGoOn (grammar q) r
 ends_rule q [] h = tt
 ends_rule q (t ∷ ts) h = not_true _ (λ k. let up = rule_goes_on_right q (code t) k in cc)

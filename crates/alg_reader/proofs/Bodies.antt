@@ -5,12 +5,12 @@ use Rattle.alg_tokens.specs.declared.token.Token.{Token}
 use Rattle.alg_tokens.specs.declared.token.TokenKind.TheVariants as kinds
 use Rattle.alg_tokens.specs.declared.token.Word.TheVariants as words
 use Rattle.alg_reader.specs.declared.cursor.Fault.{Fault}
-use Rattle.alg_reader.specs.declared.parts.Said.{Said}
+use Rattle.alg_reader.specs.declared.parts.HeldStatement.{HeldStatement}
 use Rattle.alg_reader.specs.Kinds.{code}
 use Rattle.alg_reader.specs.Forms.{Ring, Sort, Hom, Vars, Hyp, Goal, alt, rule}
 use Rattle.alg_reader.specs.Grammar.{word, body}
 use Rattle.alg_reader.specs.Meaning.{kind_value}
-use Rattle.alg_reader.specs.Parts.{said}
+use Rattle.alg_reader.specs.Parts.{held_statement}
 use Rattle.alg_reader.specs.Ahead.{begins, rule_begins, Starts, Lacks, StartsEither, LacksBoth}
 use Rattle.alg_reader.specs.Reading.{ReadsStatement}
 use Rattle.alg_reader.proofs.Ahead.{Disjoint}
@@ -96,50 +96,61 @@ lacks_sort ts (h, k) =
     let first : (26 == code h.0) ≡ false = h.3 in
     (h.0, h.1, h.2, grind (arith, nat_tests))
 
-pub body_ring : (ts new : List Token) (r : Result Said Fault) → Starts (rule Ring) ts
+pub body_ring : (ts new : List Token) (r : Result HeldStatement Fault) → Starts (rule Ring) ts
     → ReadsStatement (rule Ring) ts r new → ReadsStatement body ts r new
 body_ring ts new r s h = left_kept (rule Ring) (alt (rule Sort) (alt (rule Hom) (alt (rule Vars) (alt (rule Hyp)
-    (rule Goal))))) said kind_value ts new r ring_apart refl refl s h
+    (rule Goal))))) held_statement kind_value ts new r ring_apart refl refl s h
 
-pub body_sort : (ts new : List Token) (r : Result Said Fault) → Lacks (rule Ring) ts → Starts (rule Sort) ts
+pub body_sort : (ts new : List Token) (r : Result HeldStatement Fault) → Lacks (rule Ring) ts → Starts (rule Sort) ts
     → ReadsStatement (rule Sort) ts r new → ReadsStatement body ts r new
 body_sort ts new r l0 s h = right_kept (rule Ring) (alt (rule Sort) (alt (rule Hom) (alt (rule Vars) (alt
-    (rule Hyp) (rule Goal))))) said kind_value ts new r ring_apart refl refl l0 (left_kept (rule Sort) (alt (rule Hom)
-    (alt (rule Vars) (alt (rule Hyp) (rule Goal)))) said kind_value ts new r sort_apart refl refl s h)
+    (rule Hyp) (rule Goal))))) held_statement kind_value ts new r ring_apart refl refl l0
+    (left_kept (rule Sort) (alt (rule Hom)
+    (alt (rule Vars) (alt (rule Hyp) (rule Goal)))) held_statement kind_value ts new r sort_apart refl refl s h)
 
-pub body_hom : (ts new : List Token) (r : Result Said Fault) → Lacks (rule Ring) ts → Lacks (rule Sort) ts
+pub body_hom : (ts new : List Token) (r : Result HeldStatement Fault) → Lacks (rule Ring) ts → Lacks (rule Sort) ts
     → Starts (rule Hom) ts → ReadsStatement (rule Hom) ts r new → ReadsStatement body ts r new
 body_hom ts new r l0 l1 s h = right_kept (rule Ring) (alt (rule Sort) (alt (rule Hom) (alt (rule Vars) (alt
-    (rule Hyp) (rule Goal))))) said kind_value ts new r ring_apart refl refl l0 (right_kept (rule Sort) (alt (rule Hom)
-    (alt (rule Vars) (alt (rule Hyp) (rule Goal)))) said kind_value ts new r sort_apart refl refl l1 (left_kept
-    (rule Hom) (alt (rule Vars) (alt (rule Hyp) (rule Goal))) said kind_value ts new r hom_apart refl refl s h))
+    (rule Hyp) (rule Goal))))) held_statement kind_value ts new r ring_apart refl refl l0
+    (right_kept (rule Sort) (alt (rule Hom)
+    (alt (rule Vars) (alt (rule Hyp) (rule Goal)))) held_statement kind_value ts new r sort_apart refl refl l1
+    (left_kept
+    (rule Hom) (alt (rule Vars) (alt (rule Hyp)
+    (rule Goal))) held_statement kind_value ts new r hom_apart refl refl s h))
 
-pub body_vars : (ts new : List Token) (r : Result Said Fault) → Lacks (rule Ring) ts → Lacks (rule Sort) ts
+pub body_vars : (ts new : List Token) (r : Result HeldStatement Fault) → Lacks (rule Ring) ts → Lacks (rule Sort) ts
     → Lacks (rule Hom) ts → Starts (rule Vars) ts → ReadsStatement (rule Vars) ts r new
     → ReadsStatement body ts r new
 body_vars ts new r l0 l1 l2 s h = right_kept (rule Ring) (alt (rule Sort) (alt (rule Hom) (alt (rule Vars) (alt
-    (rule Hyp) (rule Goal))))) said kind_value ts new r ring_apart refl refl l0 (right_kept (rule Sort) (alt (rule Hom)
-    (alt (rule Vars) (alt (rule Hyp) (rule Goal)))) said kind_value ts new r sort_apart refl refl l1 (right_kept
-    (rule Hom) (alt (rule Vars) (alt (rule Hyp) (rule Goal))) said kind_value ts new r hom_apart refl refl l2
-    (left_kept (rule Vars) (alt (rule Hyp) (rule Goal)) said kind_value ts new r vars_apart refl refl s h)))
+    (rule Hyp) (rule Goal))))) held_statement kind_value ts new r ring_apart refl refl l0
+    (right_kept (rule Sort) (alt (rule Hom)
+    (alt (rule Vars) (alt (rule Hyp) (rule Goal)))) held_statement kind_value ts new r sort_apart refl refl l1
+    (right_kept
+    (rule Hom) (alt (rule Vars) (alt (rule Hyp) (rule Goal))) held_statement kind_value ts new r hom_apart refl refl l2
+    (left_kept (rule Vars) (alt (rule Hyp) (rule Goal)) held_statement kind_value ts new r vars_apart refl refl s h)))
 
-pub body_hyp : (ts new : List Token) (r : Result Said Fault) → Lacks (rule Ring) ts → Lacks (rule Sort) ts
+pub body_hyp : (ts new : List Token) (r : Result HeldStatement Fault) → Lacks (rule Ring) ts → Lacks (rule Sort) ts
     → Lacks (rule Hom) ts → Lacks (rule Vars) ts → Starts (rule Hyp) ts → ReadsStatement (rule Hyp) ts r new
     → ReadsStatement body ts r new
 body_hyp ts new r l0 l1 l2 l3 s h = right_kept (rule Ring) (alt (rule Sort) (alt (rule Hom) (alt (rule Vars) (alt
-    (rule Hyp) (rule Goal))))) said kind_value ts new r ring_apart refl refl l0 (right_kept (rule Sort) (alt (rule Hom)
-    (alt (rule Vars) (alt (rule Hyp) (rule Goal)))) said kind_value ts new r sort_apart refl refl l1 (right_kept
-    (rule Hom) (alt (rule Vars) (alt (rule Hyp) (rule Goal))) said kind_value ts new r hom_apart refl refl l2
-    (right_kept (rule Vars) (alt (rule Hyp) (rule Goal)) said kind_value ts new r vars_apart refl refl l3 (left_kept
-    (rule Hyp) (rule Goal) said kind_value ts new r hyp_apart refl refl s h))))
+    (rule Hyp) (rule Goal))))) held_statement kind_value ts new r ring_apart refl refl l0
+    (right_kept (rule Sort) (alt (rule Hom)
+    (alt (rule Vars) (alt (rule Hyp) (rule Goal)))) held_statement kind_value ts new r sort_apart refl refl l1
+    (right_kept
+    (rule Hom) (alt (rule Vars) (alt (rule Hyp) (rule Goal))) held_statement kind_value ts new r hom_apart refl refl l2
+    (right_kept (rule Vars) (alt (rule Hyp) (rule Goal)) held_statement kind_value ts new r vars_apart refl refl l3
+    (left_kept
+    (rule Hyp) (rule Goal) held_statement kind_value ts new r hyp_apart refl refl s h))))
 
-pub body_goal : (ts new : List Token) (r : Result Said Fault) → Lacks (rule Ring) ts → Lacks (rule Sort) ts
+pub body_goal : (ts new : List Token) (r : Result HeldStatement Fault) → Lacks (rule Ring) ts → Lacks (rule Sort) ts
     → Lacks (rule Hom) ts → Lacks (rule Vars) ts → Lacks (rule Hyp) ts → ReadsStatement (rule Goal) ts r new
     → ReadsStatement body ts r new
 body_goal ts new r l0 l1 l2 l3 l4 h = right_kept (rule Ring) (alt (rule Sort) (alt (rule Hom) (alt (rule Vars)
-    (alt (rule Hyp) (rule Goal))))) said kind_value ts new r ring_apart refl refl l0 (right_kept (rule Sort) (alt
-    (rule Hom) (alt (rule Vars) (alt (rule Hyp) (rule Goal)))) said kind_value ts new r sort_apart refl refl l1
+    (alt (rule Hyp) (rule Goal))))) held_statement kind_value ts new r ring_apart refl refl l0
+    (right_kept (rule Sort) (alt
+    (rule Hom) (alt (rule Vars) (alt (rule Hyp)
+    (rule Goal)))) held_statement kind_value ts new r sort_apart refl refl l1
     (right_kept (rule Hom) (alt (rule Vars) (alt (rule Hyp)
-    (rule Goal))) said kind_value ts new r hom_apart refl refl l2 (right_kept (rule Vars) (alt (rule Hyp)
-    (rule Goal)) said kind_value ts new r vars_apart refl refl l3 (right_kept (rule Hyp)
-    (rule Goal) said kind_value ts new r hyp_apart refl refl l4 (h)))))
+    (rule Goal))) held_statement kind_value ts new r hom_apart refl refl l2 (right_kept (rule Vars) (alt (rule Hyp)
+    (rule Goal)) held_statement kind_value ts new r vars_apart refl refl l3 (right_kept (rule Hyp)
+    (rule Goal) held_statement kind_value ts new r hyp_apart refl refl l4 (h)))))

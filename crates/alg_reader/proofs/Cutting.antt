@@ -24,7 +24,8 @@ tokens_more text at stop (u ∷ tokens) t (first, is, rest) next lexeme = (
 )
 
 pub past_more : (unread : Unread) (depth : ℕ) (last : Option TokenKind) (tokens : List Token) (t : Token)
-    → GoesPast unread depth last tokens → stop_code unread (open_after depth tokens) (last_kind last tokens) t.kind ≡ None
+    → GoesPast unread depth last tokens → stop_code unread (open_after depth tokens) (last_kind last tokens) t.kind
+    ≡ None
     → GoesPast unread depth last (tokens ++ t ∷ [])
 past_more unread depth last [] t past free = (free, tt)
 past_more unread depth last (u ∷ tokens) t (first, past) free = (
@@ -47,7 +48,8 @@ pub last_more : (last : Option TokenKind) (tokens : List Token) (t : Token)
 last_more last [] t = refl
 last_more last (u ∷ tokens) t = last_more (Some u.kind) tokens t
 
-pub reaches_more : (unread : Unread) (text : List ℕ) (at stop : ℕ) (tokens : List Token) (t : Token) → Reaches unread text at tokens stop
+pub reaches_more : (unread : Unread) (text : List ℕ) (at stop : ℕ) (tokens : List Token) (t : Token) →
+    Reaches unread text at tokens stop
     → IsNext text stop (Ok t) → t.kind ≢ kinds.End
     → t.kind ≢ kinds.Sign signs.Dot → stop_code unread (open_after 0 tokens) (last_kind None tokens) t.kind ≡ None
     → Reaches unread text at (tokens ++ t ∷ []) t.stop
@@ -63,16 +65,19 @@ pub moves : (text : List ℕ) (at : ℕ) (t : Token) → IsNext text at (Ok t) �
 moves text at t (blanks, inl (end, _, _), small) lexeme = absurd (lexeme end)
 moves text at t ((past, within, blanks), inr (some, short, first), small) lexeme = (omega arith, short)
 
-room : (depth : ℕ) → cond {A = Option Code} (nat_lt depth MAX_OPEN) None (Some code.Nesting) ≡ None → depth + 1 ≤ MAX_OPEN
+room : (depth : ℕ) → cond {A = Option Code} (nat_lt depth MAX_OPEN) None (Some code.Nesting) ≡ None →
+    depth + 1 ≤ MAX_OPEN
 room depth free = elim (nat_lt depth MAX_OPEN) as (λ v. nat_lt depth MAX_OPEN ≡ v
     → cond {A = Option Code} v None (Some code.Nesting) ≡ None → depth + 1 ≤ MAX_OPEN) [
       | true ↦ λ h _. grind (arith, nat_tests)
       | false ↦ λ h e. absurd (let k = ap (λ r. is_none r) e in cc)
     ] refl free
 
-few_after : (unread : Unread) (depth : ℕ) (last : Option TokenKind) (sign : Sign) → stop_code unread depth last (kinds.Sign sign) ≡ None
+few_after : (unread : Unread) (depth : ℕ) (last : Option TokenKind) (sign : Sign) →
+    stop_code unread depth last (kinds.Sign sign) ≡ None
     → depth ≤ MAX_OPEN → open_with depth (kinds.Sign sign) ≤ MAX_OPEN
-few_after unread depth last sign = elim sign as (λ s. stop_code unread depth last (kinds.Sign s) ≡ None → depth ≤ MAX_OPEN
+few_after unread depth last sign = elim sign as
+    (λ s. stop_code unread depth last (kinds.Sign s) ≡ None → depth ≤ MAX_OPEN
     → open_with depth (kinds.Sign s) ≤ MAX_OPEN) [
       | signs.ParenLeft ↦ λ free few. room depth free
       | signs.ParenRight ↦ λ free few. omega arith
@@ -81,7 +86,8 @@ few_after unread depth last sign = elim sign as (λ s. stop_code unread depth la
     ]
 
 -- past a token at which reading doesn't stop, few enough are open
-pub still_few : (unread : Unread) (depth : ℕ) (last : Option TokenKind) (kind : TokenKind) → stop_code unread depth last kind ≡ None
+pub still_few : (unread : Unread) (depth : ℕ) (last : Option TokenKind) (kind : TokenKind) →
+    stop_code unread depth last kind ≡ None
     → depth ≤ MAX_OPEN → open_with depth kind ≤ MAX_OPEN
 still_few unread depth last kinds.Name free few = few
 still_few unread depth last (kinds.Number value) free few = few

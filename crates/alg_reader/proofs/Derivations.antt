@@ -13,7 +13,8 @@ use Rattle.alg_reader.specs.Meaning.{value, act}
 use Rattle.alg_reader.proofs.Boundaries.{IsTokenAt}
 use Rattle.alg_reader.proofs.Found.{all_split, row, RuleFound, Found}
 use Rattle.alg_reader.proofs.Nodes.{chain_found}
-use Rattle.alg_reader.proofs.Rules.{unary_found, power_rule_found, leaf_found, use_found}
+use Rattle.alg_reader.proofs.Rules.{unary_found, power_rule_found, leaf_found}
+use Rattle.alg_reader.proofs.UseRules.{use_found}
 use Rattle.alg_reader.proofs.Declarations.{ring_found, sort_found, hom_found, vars_found, hyp_found}
 use Rattle.alg_reader.proofs.GoalRules.{method_found, goal_found, statement_found}
 

@@ -7,13 +7,13 @@ use Rattle.alg_reader.specs.declared.cursor.Fault.TheVariants.{NoMemory, Unexpec
 use Rattle.alg_reader.specs.Forms.{Rule, Form, seq, alt, opt, many, rule, Sum, Tree, pair, left, right, some, end, more, node, spelled}
 use Rattle.alg_reader.specs.Grammar.{grammar, Fits, IsBegun, inside}
 use Rattle.alg_reader.specs.Ahead.{nullable, begins, goes_on, Starts, Lacks}
-use Rattle.alg_reader.specs.Reading.{Takes, Stops, Fails, Reads, ReadsKept, ReadsTerm, ReadsStatement, ReadsInside}
-use Rattle.alg_reader.specs.declared.parts.Part.{Part}
-use Rattle.alg_reader.specs.declared.parts.Said.{Said}
+use Rattle.alg_reader.specs.Reading.{Takes, IsStuckAt, Fails, Reads, ReadsKept, ReadsTerm, ReadsStatement, ReadsInside}
+use Rattle.alg_reader.specs.declared.parts.HeldTerm.{HeldTerm}
+use Rattle.alg_reader.specs.declared.parts.HeldStatement.{HeldStatement}
 use Rattle.alg_reader.specs.TermMeaning.{Value}
 use Rattle.alg_reader.specs.TermMeaning.{term}
 use Rattle.alg_reader.specs.Meaning.{kind_value}
-use Rattle.alg_reader.specs.Parts.{held, said}
+use Rattle.alg_reader.specs.Parts.{held, held_statement}
 use Rattle.alg_reader.proofs.Ahead.{Disjoint}
 use Rattle.alg_reader.proofs.ReadSequences.{stops_first, stops_second}
 use Rattle.alg_reader.proofs.ReadChoices.{stops_left, stops_right, stops_some}
@@ -55,12 +55,12 @@ begun_later f v ts fits b = (
 -- ---- faults
 
 fails_by : (f g : Form) (ts : List Token) → ((us : List Token) → IsBegun f us → IsBegun g us)
-    → ((rest : List Token) → Stops f ts rest → Stops g ts rest) → (e : Fault) → Fails f ts e → Fails g ts e
+    → ((rest : List Token) → IsStuckAt f ts rest → IsStuckAt g ts rest) → (e : Fault) → Fails f ts e → Fails g ts e
 fails_by f g ts begun stops NoMemory h = tt
 fails_by f g ts begun stops (Unexpected t) h = (h.0, stops _ h.1)
 
 fails_after : (f g : Form) (v : Tree) (ts mid : List Token) → ts ≡ spelled v ++ mid → ((us : List Token)
-    → IsBegun f us → IsBegun g (spelled v ++ us)) → ((rest : List Token) → Stops f mid rest → Stops g ts rest)
+    → IsBegun f us → IsBegun g (spelled v ++ us)) → ((rest : List Token) → IsStuckAt f mid rest → IsStuckAt g ts rest)
     → (e : Fault) → Fails f mid e → Fails g ts e
 fails_after f g v ts mid cut begun stops NoMemory h = tt
 fails_after f g v ts mid cut begun stops (Unexpected t) h = (h.0, stops _ h.1)
@@ -129,15 +129,15 @@ pub passed_kept : {X Y : Type 0} (f : Form) (keep : Y → X) (view : Y → Value
     (r : Result X Fault) (e : Fault) → IsErrAnd r (λ x. x ≡ e) → Fails f ts e → ReadsKept f keep view ts r new
 passed_kept f keep view ts new r e is h = let p = err_from_is_err_and r is in rw (p.1, p.2) h
 
-pub passed_term : (q : Rule) (ts new : List Token) (r : Result Part Fault) (e : Fault) → IsErrAnd r (λ x. x ≡ e)
+pub passed_term : (q : Rule) (ts new : List Token) (r : Result HeldTerm Fault) (e : Fault) → IsErrAnd r (λ x. x ≡ e)
     → Fails (rule q) ts e → ReadsTerm q ts r new
 passed_term q = passed_kept (rule q) held term
 
-pub passed_statement : (f : Form) (ts new : List Token) (r : Result Said Fault) (e : Fault)
+pub passed_statement : (f : Form) (ts new : List Token) (r : Result HeldStatement Fault) (e : Fault)
     → IsErrAnd r (λ x. x ≡ e) → Fails f ts e → ReadsStatement f ts r new
-passed_statement f = passed_kept f said kind_value
+passed_statement f = passed_kept f held_statement kind_value
 
-pub passed_inside : (ts new : List Token) (r : Result Part Fault) (e : Fault) → IsErrAnd r (λ x. x ≡ e)
+pub passed_inside : (ts new : List Token) (r : Result HeldTerm Fault) (e : Fault) → IsErrAnd r (λ x. x ≡ e)
     → Fails (inside (rule Sum)) ts e → ReadsInside ts r new
 passed_inside ts new r e is h = let p = err_from_is_err_and r is in rw (p.1, p.2) h
 

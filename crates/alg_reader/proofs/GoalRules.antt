@@ -16,7 +16,8 @@ use Rattle.alg_reader.specs.PartMeaning.{sides, method_word, nsatz_of}
 use Rattle.alg_reader.specs.WellRead.{IsWellMethod}
 use Rattle.alg_reader.proofs.Variants.{is_by, is_nsatz}
 use Rattle.alg_reader.proofs.Found.{IsSpelledKind, KindFound, RuleFound, Found}
-use Rattle.alg_reader.proofs.Rules.{equal_words, method_words, options_found}
+use Rattle.alg_reader.proofs.Rules.{equal_words, method_words}
+use Rattle.alg_reader.proofs.UseRules.{options_found}
 
 -- a word of a method has no options
 word_well : (text : List ℕ) (kind : TokenKind) → IsWellMethod text (method_word kind)

@@ -7,7 +7,7 @@ use Rattle.alg_tokens.specs.declared.token.TokenKind.{TokenKind}
 use Rattle.alg_tokens.specs.declared.token.TokenKind.TheVariants as kinds
 use Rattle.alg_tokens.specs.declared.token.Sign.{Sign}
 use Rattle.alg_tokens.specs.declared.token.Sign.TheVariants as signs
-use Rattle.alg_reader.specs.declared.parts.Part.{Part}
+use Rattle.alg_reader.specs.declared.parts.HeldTerm.{HeldTerm}
 use Rattle.alg_reader.specs.declared.raw.RawTerm.{RawTerm}
 use Rattle.alg_reader.specs.declared.raw.RawNode.{RawNode}
 use Rattle.alg_reader.specs.declared.raw.RawNode.TheVariants.{Int, Neg, Add, Sub, Mul, Div, Pow, Hom}
@@ -20,7 +20,7 @@ use Rattle.alg_reader.specs.RawTerms.{fold_under, fold_raw, node_depth, depth_of
 use Rattle.alg_reader.specs.TooDeep.{node_depths, node_over, first_too_deep, kept}
 use Rattle.alg_reader.specs.RawNodes.{at, joined, binary, image, opposite, opposites, power_of, literal, variable, span_of, numeral_of}
 use Rattle.alg_reader.specs.PartMeaning.{sides}
-use Rattle.alg_reader.specs.Parts.{held, said, HasNoTerms, left_out, over, leaf_part, binary_part, image_part, opposite_part, opposites_part, power_part}
+use Rattle.alg_reader.specs.Parts.{held, held_statement, HasNoTerms, left_out, over, leaf_part, binary_part, image_part, opposite_part, opposites_part, power_part}
 use Rattle.alg_reader.proofs.Built.{fold_raw-Neg, fold_raw-Add, fold_raw-Sub, fold_raw-Mul, fold_raw-Div, fold_raw-Pow, fold_raw-Hom}
 use Rattle.alg_reader.proofs.Depths.{depth_agrees}
 
@@ -34,7 +34,8 @@ pub kept_whole : (t : RawTerm) → depth_of t ≤ 1000 → kept t ≡ t
 kept_whole t h = let test : nat_lt 1000 (depth_of t) ≡ false = grind (arith, nat_tests) in rw test refl
 
 -- what is held, part by part
-held_is : (t : RawTerm) (p : Part) → kept t ≡ p.term → min (depth_of t) 1001 ≡ p.depth → first_too_deep t ≡ p.too_deep
+held_is : (t : RawTerm) (p : HeldTerm) → kept t ≡ p.term → min (depth_of t) 1001 ≡ p.depth → first_too_deep t
+    ≡ p.too_deep
     → held t ≡ p
 unfolding held
 held_is t p e d f =
@@ -166,24 +167,24 @@ binary_held op t u = kind_held op.start op.kind t u
 
 -- ---- the same of parts that hold these terms
 
-pub binary_is : (op : Token) (r p q : Part) (t u : RawTerm) → r ≡ binary_part op p q → p ≡ held t → q ≡ held u
+pub binary_is : (op : Token) (r p q : HeldTerm) (t u : RawTerm) → r ≡ binary_part op p q → p ≡ held t → q ≡ held u
     → r ≡ held (binary op t u)
 binary_is op r p q t u e hp hq =
     e ∙ ap (λ x. binary_part op x q) hp ∙ ap (binary_part op (held t)) hq ∙ sym (binary_held op t u)
 
-pub image_is : (name : Token) (r p : Part) (t : RawTerm) → r ≡ image_part name p → p ≡ held t
+pub image_is : (name : Token) (r p : HeldTerm) (t : RawTerm) → r ≡ image_part name p → p ≡ held t
     → r ≡ held (image name t)
 image_is name r p t e hp = e ∙ ap (image_part name) hp ∙ sym (image_held name t)
 
-pub power_is : (caret : Token) (r p : Part) (n : Token) (t : RawTerm) → r ≡ power_part caret p n → p ≡ held t
+pub power_is : (caret : Token) (r p : HeldTerm) (n : Token) (t : RawTerm) → r ≡ power_part caret p n → p ≡ held t
     → r ≡ held (power_of caret t n)
 power_is caret r p n t e hp = e ∙ ap (λ x. power_part caret x n) hp ∙ sym (power_held caret t n)
 
 -- ---- statements
 
 -- all of a statement without terms is kept
-pub plain_said : (kind : RawKind) → HasNoTerms kind → record { kind = kind; too_deep = None } ≡ said kind
-unfolding said
+pub plain_said : (kind : RawKind) → HasNoTerms kind → record { kind = kind; too_deep = None } ≡ held_statement kind
+unfolding held_statement
 plain_said raws.End h = refl
 plain_said (raws.Sort kind name char0) h = refl
 plain_said (raws.Hom name from to) h = refl
@@ -191,15 +192,16 @@ plain_said (raws.Vars names sort) h = refl
 plain_said (raws.Hyp name e) h = absurd h
 plain_said (raws.Goal e way place) h = absurd h
 
-pub hyp_said : (name : Span) (relation : Token) (e : RawEquation) (first : Option ℕ) (p q : Part) (t u : RawTerm)
+pub hyp_said : (name : Span) (relation : Token) (e : RawEquation) (first : Option ℕ) (p q : HeldTerm) (t u : RawTerm)
     → p ≡ held t → q ≡ held u → e ≡ sides p.term relation q.term → first ≡ option_or p.too_deep q.too_deep
-    → record { kind = raws.Hyp name e; too_deep = first } ≡ said (raws.Hyp name (sides t relation u))
-unfolding said held
+    → record { kind = raws.Hyp name e; too_deep = first } ≡ held_statement (raws.Hyp name (sides t relation u))
+unfolding held_statement held
 hyp_said name relation e first p q t u hp hq he hf = rw (he, hf, hp, hq) refl
 
-pub goal_said : (way : RawMethod) (place : ℕ) (relation : Token) (e : RawEquation) (first : Option ℕ) (p q : Part)
+pub goal_said : (way : RawMethod) (place : ℕ) (relation : Token) (e : RawEquation) (first : Option ℕ) (p q : HeldTerm)
     (t u : RawTerm) → p ≡ held t → q ≡ held u → e ≡ sides p.term relation q.term
     → first ≡ option_or p.too_deep q.too_deep
-    → record { kind = raws.Goal e way place; too_deep = first } ≡ said (raws.Goal (sides t relation u) way place)
-unfolding said held
+    → record { kind = raws.Goal e way place; too_deep = first }
+    ≡ held_statement (raws.Goal (sides t relation u) way place)
+unfolding held_statement held
 goal_said way place relation e first p q t u hp hq he hf = rw (he, hf, hp, hq) refl

@@ -5,7 +5,7 @@ use Rattle.alg_tokens.specs.declared.token.TokenKind.{TokenKind}
 use Rattle.alg_tokens.specs.declared.token.TokenKind.TheVariants as kinds
 use Rattle.alg_tokens.specs.declared.token.Sign.TheVariants as signs
 use Rattle.alg_reader.specs.declared.raw.RawTerm.{RawTerm}
-use Rattle.alg_reader.specs.declared.parts.Part.{Part}
+use Rattle.alg_reader.specs.declared.parts.HeldTerm.{HeldTerm}
 use Rattle.alg_reader.specs.declared.cursor.Fault.{Fault}
 use Rattle.alg_reader.specs.Kinds.{variant}
 use Rattle.alg_reader.specs.Forms.{Sum, Product, Unary, Power, Leaf, a, seq, alt, opt, rule, Tree, token, pair, left, right, none, end, node}
@@ -197,7 +197,7 @@ fails_group ts e l l' h =
     (fails_right (seq (a kinds.Name) (opt (parens (rule Sum)))) (parens (rule Sum)) name_apart refl refl ts e
     (lacks_seq (a kinds.Name) (opt (parens (rule Sum))) ts refl l') h))
 
-pub group_read : (ts new : List Token) (r : Result Part Fault) → Lacks number ts → Lacks (a kinds.Name) ts
+pub group_read : (ts new : List Token) (r : Result HeldTerm Fault) → Lacks number ts → Lacks (a kinds.Name) ts
     → ReadsInside ts r new → ReadsTerm Leaf ts r new
 group_read ts new (Ok p) l l' h = (h.0, h.1, takes_group ts new h.0 h.2)
 group_read ts new (Err e) l l' h = fails_group ts e l l' h

@@ -23,6 +23,7 @@ pub mod Boundaries
 pub mod Found
 pub mod Nodes
 pub mod Rules
+pub mod UseRules
 pub mod Declarations
 pub mod GoalRules
 pub mod Derivations

@@ -54,13 +54,15 @@ unfolding first_or
 one_first t u ts us e = ap (λ xs. first_or xs t) e
 
 -- two statements of the same tokens
-one_meaning : (site : Place) (ts us : List Token) (kind other : RawKind) → ts ≡ us → IsStatement site ts kind → IsStatement site us other
+one_meaning : (site : Place) (ts us : List Token) (kind other : RawKind) → ts ≡ us → IsStatement site ts kind →
+    IsStatement site us other
     → kind ≡ other
 one_meaning site ts us kind other e (v, h, s, m) (w, k, s', m') =
     let tree = one_tree v w h k (s ∙ e ∙ sym s') in
     one_kind kind other (sym m ∙ ap value tree ∙ m')
 
-one_statement : (unread : Unread) (site : Place) (text : List ℕ) (at : ℕ) (raw other : Raw) → StandsAt unread site text at raw → StandsAt unread site text at other → raw ≡ other
+one_statement : (unread : Unread) (site : Place) (text : List ℕ) (at : ℕ) (raw other : Raw) →
+    StandsAt unread site text at raw → StandsAt unread site text at other → raw ≡ other
 one_statement unread site text at raw other (t, ts, to, past, start, (kind, (v, h, s, m), (keeps, deep)))
     (u, us, to', past', start', (kind', (w, k, s', m'), (keeps', deep'))) =
     elim (compare text at raw.stop other.stop (t ∷ ts) (u ∷ us) to to') [
@@ -76,7 +78,8 @@ one_statement unread site text at raw other (t, ts, to, past, start, (kind, (v, 
 -- ---- a statement or the end, and a fault
 
 -- where a statement stands is no fault
-statement_no_fault : (unread : Unread) (site : Place) (text : List ℕ) (at : ℕ) (raw : Raw) (fault : Refusal) → StandsAt unread site text at raw
+statement_no_fault : (unread : Unread) (site : Place) (text : List ℕ) (at : ℕ) (raw : Raw) (fault : Refusal) →
+    StandsAt unread site text at raw
     → IsRead unread site text at (Err (Refused fault)) → ⊥
 unfolding IsRead
 statement_no_fault unread site text at raw fault (t, ts, to, past, _, (kind, (v, h, s, _), _)) (
@@ -102,10 +105,13 @@ statement_no_fault unread site text at raw fault (t, ts, to, past, _, (kind, (v,
           ) behind
     ]
 
-end_no_statement : (unread : Unread) (site : Place) (text : List ℕ) (at : ℕ) (raw other : Raw) → IsEnd text at raw → StandsAt unread site text at other → ⊥
-end_no_statement unread site text at raw other (ends, _) (t, ts, (next, lexeme, _), _, _, _) = no_end text at t next lexeme ends
+end_no_statement : (unread : Unread) (site : Place) (text : List ℕ) (at : ℕ) (raw other : Raw) → IsEnd text at raw →
+    StandsAt unread site text at other → ⊥
+end_no_statement unread site text at raw other (ends, _) (t, ts, (next, lexeme, _), _, _, _) =
+    no_end text at t next lexeme ends
 
-end_no_fault : (unread : Unread) (site : Place) (text : List ℕ) (at : ℕ) (raw : Raw) (fault : Refusal) → IsEnd text at raw
+end_no_fault : (unread : Unread) (site : Place) (text : List ℕ) (at : ℕ) (raw : Raw) (fault : Refusal) →
+    IsEnd text at raw
     → IsRead unread site text at (Err (Refused fault)) → ⊥
 unfolding IsRead
 end_no_fault unread site text at raw fault (ends, _) ((t ∷ before), stop, ((next, lexeme, _), _, _), _, _) =
@@ -161,7 +167,8 @@ one_fault unread site text before stop one other (inr (inr (t, h, _, ends))) (in
     let P : Token → Type 0 = λ x. EndsReading unread site before x other in
     one_ending unread site before t one other ends (subst P (sym same) ends')
 
-two_faults : (unread : Unread) (site : Place) (text : List ℕ) (at : ℕ) (one other : Refusal) → IsRead unread site text at (Err (Refused one))
+two_faults : (unread : Unread) (site : Place) (text : List ℕ) (at : ℕ) (one other : Refusal) →
+    IsRead unread site text at (Err (Refused one))
     → IsRead unread site text at (Err (Refused other)) → one ≡ other
 unfolding IsRead
 two_faults unread site text at one other (before, stop, (to, past, _), begun, behind) (
@@ -184,15 +191,20 @@ two_faults unread site text at one other (before, stop, (to, past, _), begun, be
 
 -- ---- one outcome
 
-two_statements : (unread : Unread) (site : Place) (text : List ℕ) (at : ℕ) (one other : Raw) → IsRead unread site text at (Ok one) → IsRead unread site text at (Ok other)
+two_statements : (unread : Unread) (site : Place) (text : List ℕ) (at : ℕ) (one other : Raw) →
+    IsRead unread site text at (Ok one) → IsRead unread site text at (Ok other)
     → one ≡ other
 unfolding IsRead
 two_statements unread site text at one other (inl (_, e)) (inl (_, e')) = e ∙ sym e'
-two_statements unread site text at one other (inl ends) (inr stands) = absurd (end_no_statement unread site text at one other ends stands)
-two_statements unread site text at one other (inr stands) (inl ends) = absurd (end_no_statement unread site text at other one ends stands)
-two_statements unread site text at one other (inr stands) (inr stands') = one_statement unread site text at one other stands stands'
+two_statements unread site text at one other (inl ends) (inr stands) =
+    absurd (end_no_statement unread site text at one other ends stands)
+two_statements unread site text at one other (inr stands) (inl ends) =
+    absurd (end_no_statement unread site text at other one ends stands)
+two_statements unread site text at one other (inr stands) (inr stands') =
+    one_statement unread site text at one other stands stands'
 
-no_both : (unread : Unread) (site : Place) (text : List ℕ) (at : ℕ) (raw : Raw) (fault : Refusal) → IsRead unread site text at (Ok raw)
+no_both : (unread : Unread) (site : Place) (text : List ℕ) (at : ℕ) (raw : Raw) (fault : Refusal) →
+    IsRead unread site text at (Ok raw)
     → IsRead unread site text at (Err (Refused fault)) → ⊥
 unfolding IsRead
 no_both unread site text at raw fault (inl ends) h = end_no_fault unread site text at raw fault ends h
@@ -202,8 +214,11 @@ pub one_outcome : OneOutcome
 one_outcome unread site text at (Err NoMemory) other h k some some' = absurd (some refl)
 one_outcome unread site text at (Ok one) (Err NoMemory) h k some some' = absurd (some' refl)
 one_outcome unread site text at (Err (Refused one)) (Err NoMemory) h k some some' = absurd (some' refl)
-one_outcome unread site text at (Ok one) (Ok other) h k some some' = ap (λ r. Ok r) (two_statements unread site text at one other h k)
-one_outcome unread site text at (Ok one) (Err (Refused fault)) h k some some' = absurd (no_both unread site text at one fault h k)
-one_outcome unread site text at (Err (Refused fault)) (Ok other) h k some some' = absurd (no_both unread site text at other fault k h)
+one_outcome unread site text at (Ok one) (Ok other) h k some some' =
+    ap (λ r. Ok r) (two_statements unread site text at one other h k)
+one_outcome unread site text at (Ok one) (Err (Refused fault)) h k some some' =
+    absurd (no_both unread site text at one fault h k)
+one_outcome unread site text at (Err (Refused fault)) (Ok other) h k some some' =
+    absurd (no_both unread site text at other fault k h)
 one_outcome unread site text at (Err (Refused one)) (Err (Refused other)) h k some some' =
     ap (λ e. Err (Refused e)) (two_faults unread site text at one other h k)

@@ -64,10 +64,13 @@ compare text at stop stop' (t ∷ ts) (u ∷ us) (next, _, to) (next', _, to') =
 
 -- ---- no fault stands where reading goes on
 
-pub free_at : (unread : Unread) (depth : ℕ) (last : Option TokenKind) (before : List Token) (t : Token) (after : List Token)
-    → GoesPast unread depth last (before ++ t ∷ after) → stop_code unread (open_after depth before) (last_kind last before) t.kind ≡ None
+pub free_at : (unread : Unread) (depth : ℕ) (last : Option TokenKind) (before : List Token) (t : Token)
+    (after : List Token)
+    → GoesPast unread depth last (before ++ t ∷ after) →
+    stop_code unread (open_after depth before) (last_kind last before) t.kind ≡ None
 free_at unread depth last [] t after past = past.0
-free_at unread depth last (b ∷ before) t after past = free_at unread (open_with depth b.kind) (Some b.kind) before t after past.1
+free_at unread depth last (b ∷ before) t after past =
+    free_at unread (open_with depth b.kind) (Some b.kind) before t after past.1
 
 no_stop : (found : Option Code) (why : Code) → found ≡ None → found ≡ Some why → ⊥
 no_stop found why none some = let clash = ap (λ r. is_none r) (sym none ∙ some) in cc

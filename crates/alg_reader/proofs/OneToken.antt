@@ -7,7 +7,7 @@ use Rattle.alg_reader.specs.Kinds.{variant, code}
 use Rattle.alg_reader.specs.Forms.{Form, a, seq, Tree, token, left, right, spelled}
 use Rattle.alg_reader.specs.Grammar.{Fits, number, zero}
 use Rattle.alg_reader.specs.Ahead.{nullable, begins, Starts, Lacks}
-use Rattle.alg_reader.specs.Reading.{Takes, Stops}
+use Rattle.alg_reader.specs.Reading.{Takes, IsStuckAt}
 use Rattle.alg_reader.specs.TermMeaning.{one}
 use Rattle.alg_reader.specs.Meaning.{value}
 use Rattle.alg_reader.proofs.Ahead.{Disjoint, or_first}
@@ -80,13 +80,13 @@ number_taken ts rest t s e =
     let Q : Token → Type 0 = λ u. begins number (code u) ≡ true in
     subst P (sym e) (numeral_here t rest (subst Q same s.3))
 
-pub no_number : (ts rest : List Token) (t : Token) → Lacks number ts → ts ≡ t ∷ rest → Stops number ts (t ∷ rest)
+pub no_number : (ts rest : List Token) (t : Token) → Lacks number ts → ts ≡ t ∷ rest → IsStuckAt number ts (t ∷ rest)
 no_number ts rest t s e =
     let same : s.0 ≡ t = let e' = s.2 in cc in
     let Q : Token → Type 0 = λ u. begins number (code u) ≡ false in
     let (first, second) = or_parts (variant (kinds.Number (pos 0)) == code t) (variant (kinds.Number
     (pos 1)) == code t) (subst Q same s.3) in
-    let P : List Token → Type 0 = λ us. Stops number us (t ∷ rest) in
+    let P : List Token → Type 0 = λ us. IsStuckAt number us (t ∷ rest) in
     subst P (sym e) (stops_right zero (a (kinds.Number (pos 1))) numeral_apart refl refl (t ∷ rest) (t ∷ rest) (
       t,
       rest,

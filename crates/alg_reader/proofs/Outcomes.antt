@@ -12,7 +12,7 @@ use Rattle.alg_tokens.specs.Codes.{code_number}
 use Rattle.alg_tokens.specs.Next.{IsNext}
 use Rattle.alg_reader.specs.Forms.{Statement, Form, rule, Tree, spelled}
 use Rattle.alg_reader.specs.Grammar.{Fits, IsBegun}
-use Rattle.alg_reader.specs.Reading.{Takes, Stops}
+use Rattle.alg_reader.specs.Reading.{Takes, IsStuckAt}
 use Rattle.alg_reader.specs.Tokens.{Unread, TokensTo, open_after, last_kind, stop_code, GoesPast, HasNoDot, Reaches, IsStatementCut, end_of}
 use Rattle.alg_reader.specs.declared.raw.RawKind.{RawKind}
 use Rattle.alg_reader.specs.Meaning.{kind_value}
@@ -21,8 +21,8 @@ use Rattle.alg_reader.specs.declared.place.Place.{Place}
 use Rattle.alg_reader.specs.declared.reading.Raw.{Raw}
 use Rattle.alg_reader.specs.declared.reading.FileEnd.{FileEnd}
 use Rattle.alg_reader.specs.declared.reading.FileEnd.TheVariants.{NoMemory}
-use Rattle.alg_reader.specs.declared.parts.Said.{Said}
-use Rattle.alg_reader.specs.Parts.{said}
+use Rattle.alg_reader.specs.declared.parts.HeldStatement.{HeldStatement}
+use Rattle.alg_reader.specs.Parts.{held_statement}
 use Rattle.alg_reader.specs.Statements.{Keeps, IsRead}
 use Rattle.alg_reader.proofs.Cutting.{tokens_more, past_more}
 use Rattle.alg_reader.proofs.Places.{no_dot_append, statement_dot, head_or}
@@ -50,7 +50,7 @@ pub begun_front : (f : Form) (xs ys : List Token) → IsBegun f (xs ++ ys) → I
 begun_front f xs ys (v, back, fits, e) = (v, ys ++ back, fits, e ∙ append_assoc xs ys back)
 
 -- stuck at a token: with it no statement begins
-pub stuck_there : (ts rest : List Token) (t : Token) (p : Stops (rule Statement) ts (t ∷ rest))
+pub stuck_there : (ts rest : List Token) (t : Token) (p : IsStuckAt (rule Statement) ts (t ∷ rest))
     → IsBegun (rule Statement) (p.seen ++ t ∷ []) → ⊥
 stuck_there ts rest t p b = p.stuck b.0 [] (t ∷ b.1) (t, rest, b.1, refl, refl) b.2 tt (append-nil (spelled b.0)
     ∙ b.3 ∙ append_assoc p.seen (t ∷ []) b.1)
@@ -58,10 +58,12 @@ stuck_there ts rest t p b = p.stuck b.0 [] (t ∷ b.1) (t, rest, b.1, refl, refl
 -- reading does not stop at a dot
 pub dot_free : (unread : Unread) (depth : ℕ) (last : Option TokenKind) (kind : TokenKind) → kind ≡ kinds.Sign signs.Dot
     → stop_code unread depth last kind ≡ None
-dot_free unread depth last kind is = let P : TokenKind → Type 0 = λ k. stop_code unread depth last k ≡ None in subst P (sym is) refl
+dot_free unread depth last kind is =
+    let P : TokenKind → Type 0 = λ k. stop_code unread depth last k ≡ None in subst P (sym is) refl
 
 -- where reading is stopped by a token that is no dot, no token is one
-pub stopped_no_dot : (unread : Unread) (text : List ℕ) (at : ℕ) (before : List Token) (t : Token) (why : Code) → HasNoDot before
+pub stopped_no_dot : (unread : Unread) (text : List ℕ) (at : ℕ) (before : List Token) (t : Token) (why : Code) →
+    HasNoDot before
     → stop_code unread (open_after 0 before) (last_kind None before) t.kind ≡ Some why → HasNoDot (before ++ t ∷ [])
 stopped_no_dot unread text at before t why clear barred =
     no_dot_append before (t ∷ []) clear (
@@ -88,14 +90,16 @@ first_of [] t = (t, [], refl)
 first_of (x ∷ before) t = (x, before ++ t ∷ [], refl)
 
 -- what is kept of a statement
-said_keeps : (start stop : ℕ) (s : Said) (kind : RawKind) → s ≡ said kind
+said_keeps : (start stop : ℕ) (s : HeldStatement) (kind : RawKind) → s ≡ held_statement kind
     → Keeps (record { kind = s.kind; start = start; stop = stop; too_deep = s.too_deep }) kind
-unfolding said
+unfolding held_statement
 said_keeps start stop s kind e = (ap (λ x. x.kind) e, ap (λ x. x.too_deep) e)
 
 -- all tokens to the dot are the statement
-whole_statement : (unread : Unread) (site : Place) (text : List ℕ) (at mid start stop : ℕ) (ts before new : List Token) (t e : Token)
-    (s : Said) (kind : RawKind) → s ≡ said kind → ts ≡ before ++ t ∷ [] → Reaches unread text at before mid
+whole_statement : (unread : Unread) (site : Place) (text : List ℕ) (at mid start stop : ℕ)
+    (ts before new : List Token) (t e : Token)
+    (s : HeldStatement) (kind : RawKind) → s ≡ held_statement kind → ts ≡ before ++ t ∷ [] →
+    Reaches unread text at before mid
     → IsNext text mid (Ok t)
     → t.kind ≢ kinds.End → t.kind ≡ kinds.Sign signs.Dot → Takes (rule Statement) (ts ++ e ∷ []) new (kind_value kind)
     → ((u : Token) (us : List Token) → ts ≡ u ∷ us → start ≡ u.start) → ((us : List Token) (u : Token)
@@ -114,7 +118,8 @@ whole_statement unread site text at mid start stop ts before new t e s kind keep
     let (first, after, split) = first_of before t in
     let shown : ts ≡ first ∷ after = same ∙ split in
     let here : TokensTo text at (before ++ t ∷ []) t.stop = tokens_more text at mid before t to next lexeme in
-    let free : GoesPast unread 0 None (before ++ t ∷ []) = past_more unread 0 None before t past (dot_free unread (open_after 0 before)
+    let free : GoesPast unread 0 None (before ++ t ∷ []) = past_more unread 0 None before t past
+    (dot_free unread (open_after 0 before)
     (last_kind None before) t.kind dot) in
     let P : ℕ → Type 0 = λ n. TokensTo text at (first ∷ after) n in
     let Q : List Token → Type 0 = λ us. TokensTo text at us t.stop in
@@ -127,8 +132,10 @@ whole_statement unread site text at mid start stop ts before new t e s kind keep
       (kind, (p.tree, p.fits, all ∙ shown, p.means), said_keeps start stop s kind keeps),
     )
 
-pub read_ok : (unread : Unread) (site : Place) (text : List ℕ) (at start stop : ℕ) (ts new : List Token) (fault : Refusal) (e : Token)
-    (s : Said) (kind : RawKind) → s ≡ said kind → e.kind ≡ kinds.End → IsStatementCut unread text at ts fault
+pub read_ok : (unread : Unread) (site : Place) (text : List ℕ) (at start stop : ℕ) (ts new : List Token)
+    (fault : Refusal) (e : Token)
+    (s : HeldStatement) (kind : RawKind) → s ≡ held_statement kind → e.kind ≡ kinds.End →
+    IsStatementCut unread text at ts fault
     → Takes (rule Statement) (ts ++ e ∷ []) new (kind_value kind)
     → ((u : Token) (us : List Token) → ts ≡ u ∷ us → start ≡ u.start) → ((us : List Token) (u : Token)
     → ts ≡ us ++ u ∷ [] → stop ≡ u.stop)
@@ -154,7 +161,8 @@ read_ok unread site text at start stop ts new fault e s kind keeps is (inr (inr 
   lexeme,
   inl dot,
 ))) p starts stops =
-    whole_statement unread site text at mid start stop ts before new t e s kind keeps same reaches next lexeme dot p starts stops
+    whole_statement unread site text at mid start stop ts before new t e s kind keeps same reaches next lexeme dot p
+    starts stops
 read_ok unread site text at start stop ts new fault e s kind keeps is (inr (inr (
   before,
   t,
@@ -172,12 +180,15 @@ pub no_memory : (unread : Unread) (site : Place) (text : List ℕ) (at : ℕ) �
 unfolding IsRead
 no_memory unread site text at = tt
 
-pub passed_no_memory : (unread : Unread) (site : Place) (text : List ℕ) (at : ℕ) (r : Result Raw FileEnd) → IsErrAnd r (λ e. e ≡ NoMemory)
+pub passed_no_memory : (unread : Unread) (site : Place) (text : List ℕ) (at : ℕ) (r : Result Raw FileEnd) →
+    IsErrAnd r (λ e. e ≡ NoMemory)
     → IsRead unread site text at r
-passed_no_memory unread site text at r is = let p = err_from_is_err_and r is in rw (p.1, p.2) (no_memory unread site text at)
+passed_no_memory unread site text at r is =
+    let p = err_from_is_err_and r is in rw (p.1, p.2) (no_memory unread site text at)
 
 -- no token stands before the end
-pub read_end : (unread : Unread) (site : Place) (text : List ℕ) (at : ℕ) (ts : List Token) (fault : Refusal) → ts ≡ [] → IsStatementCut unread text at ts fault
+pub read_end : (unread : Unread) (site : Place) (text : List ℕ) (at : ℕ) (ts : List Token) (fault : Refusal)
+    → ts ≡ [] → IsStatementCut unread text at ts fault
     → fault.code ≡ code_number code.End
     → IsRead unread site text at (Ok (record { kind = raws.End; start = fault.at; stop = fault.at; too_deep = None }))
 unfolding IsRead

@@ -3,8 +3,8 @@ use Rattle.std.proofs.Common.{◌≡◌, false, List, ◌++◌, refl, sym, subst
 use Rattle.alg_tokens.specs.declared.token.Token.{Token}
 use Rattle.alg_reader.specs.Forms.{Form, alt, opt, Tree, left, right, none, some, spelled}
 use Rattle.alg_reader.specs.Grammar.{Fits}
-use Rattle.alg_reader.specs.Ahead.{nullable, begins, Ends, SameHead, Starts, Lacks}
-use Rattle.alg_reader.specs.Reading.{Takes, Stops}
+use Rattle.alg_reader.specs.Ahead.{nullable, begins, CannotGoOn, SameHead, Starts, Lacks}
+use Rattle.alg_reader.specs.Reading.{Takes, IsStuckAt}
 use Rattle.alg_reader.specs.TermMeaning.{Value}
 use Rattle.alg_reader.specs.TermMeaning.{nothing}
 use Rattle.alg_reader.proofs.Ahead.{Disjoint, same_head_after, starts_with, clash, lacks_clash, same_starts, same_lacks, ends_clash, ends_opt, ends_left, ends_right}
@@ -14,9 +14,9 @@ use Rattle.alg_reader.proofs.Ahead.{Disjoint, same_head_after, starts_with, clas
 module _ (f g : Form) (apart : Disjoint (begins f) (begins g)) (f_full : nullable f ≡ false)
     (g_full : nullable g ≡ false) where
   takes_left_only : (p : Tree) (rest : List Token) → Fits f p
-      → ((v : Tree) (r rest' : List Token) → SameHead rest rest' → Fits f v → Ends f r
+      → ((v : Tree) (r rest' : List Token) → SameHead rest rest' → Fits f v → CannotGoOn f r
       → spelled v ++ r ≡ spelled p ++ rest' → (v ≡ p) × (r ≡ rest'))
-      → (v : Tree) (r rest' : List Token) → SameHead rest rest' → Fits (alt f g) v → Ends (alt f g) r
+      → (v : Tree) (r rest' : List Token) → SameHead rest rest' → Fits (alt f g) v → CannotGoOn (alt f g) r
       → spelled v ++ r ≡ spelled p ++ rest' → (v ≡ left p) × (r ≡ rest')
   takes_left_only p rest p_fits f_only (left v) r rest' same fits ends e =
       let h = f_only v r rest' same fits (ends_left f g r ends) e in (cc, h.1)
@@ -35,9 +35,9 @@ module _ (f g : Form) (apart : Disjoint (begins f) (begins g)) (f_full : nullabl
   }
 
   takes_right_only : (p : Tree) (rest : List Token) → Fits g p
-      → ((v : Tree) (r rest' : List Token) → SameHead rest rest' → Fits g v → Ends g r
+      → ((v : Tree) (r rest' : List Token) → SameHead rest rest' → Fits g v → CannotGoOn g r
       → spelled v ++ r ≡ spelled p ++ rest' → (v ≡ p) × (r ≡ rest'))
-      → (v : Tree) (r rest' : List Token) → SameHead rest rest' → Fits (alt f g) v → Ends (alt f g) r
+      → (v : Tree) (r rest' : List Token) → SameHead rest rest' → Fits (alt f g) v → CannotGoOn (alt f g) r
       → spelled v ++ r ≡ spelled p ++ rest' → (v ≡ right p) × (r ≡ rest')
   takes_right_only p rest p_fits g_only (right v) r rest' same fits ends e =
       let h = g_only v r rest' same fits (ends_right f g r ends) e in (cc, h.1)
@@ -56,9 +56,9 @@ module _ (f g : Form) (apart : Disjoint (begins f) (begins g)) (f_full : nullabl
   }
 
   stops_left_stuck : (seen rest : List Token) → Starts f (seen ++ rest)
-      → ((v : Tree) (r rest' : List Token) → SameHead rest rest' → Fits f v → Ends f r
+      → ((v : Tree) (r rest' : List Token) → SameHead rest rest' → Fits f v → CannotGoOn f r
       → spelled v ++ r ≡ seen ++ rest' → ⊥)
-      → (v : Tree) (r rest' : List Token) → SameHead rest rest' → Fits (alt f g) v → Ends (alt f g) r
+      → (v : Tree) (r rest' : List Token) → SameHead rest rest' → Fits (alt f g) v → CannotGoOn (alt f g) r
       → spelled v ++ r ≡ seen ++ rest' → ⊥
   stops_left_stuck seen rest starts f_stuck (left v) r rest' same fits ends e = f_stuck v r rest' same fits
       (ends_left f g r ends) e
@@ -67,7 +67,7 @@ module _ (f g : Form) (apart : Disjoint (begins f) (begins g)) (f_full : nullabl
       (starts_with g v r g_full fits) (sym e)
   stops_left_stuck seen rest starts f_stuck _ r rest' same fits ends e = absurd fits
 
-  pub stops_left : (ts rest : List Token) → Starts f ts → Stops f ts rest → Stops (alt f g) ts rest
+  pub stops_left : (ts rest : List Token) → Starts f ts → IsStuckAt f ts rest → IsStuckAt (alt f g) ts rest
   stops_left ts rest starts p = record {
     seen = p.seen;
     cut = p.cut;
@@ -76,9 +76,9 @@ module _ (f g : Form) (apart : Disjoint (begins f) (begins g)) (f_full : nullabl
   }
 
   stops_right_stuck : (seen rest : List Token) → Lacks f (seen ++ rest)
-      → ((v : Tree) (r rest' : List Token) → SameHead rest rest' → Fits g v → Ends g r
+      → ((v : Tree) (r rest' : List Token) → SameHead rest rest' → Fits g v → CannotGoOn g r
       → spelled v ++ r ≡ seen ++ rest' → ⊥)
-      → (v : Tree) (r rest' : List Token) → SameHead rest rest' → Fits (alt f g) v → Ends (alt f g) r
+      → (v : Tree) (r rest' : List Token) → SameHead rest rest' → Fits (alt f g) v → CannotGoOn (alt f g) r
       → spelled v ++ r ≡ seen ++ rest' → ⊥
   stops_right_stuck seen rest lacks g_stuck (right v) r rest' same fits ends e = g_stuck v r rest' same fits
       (ends_right f g r ends) e
@@ -87,7 +87,7 @@ module _ (f g : Form) (apart : Disjoint (begins f) (begins g)) (f_full : nullabl
       (starts_with f v r f_full fits) (sym e)
   stops_right_stuck seen rest lacks g_stuck _ r rest' same fits ends e = absurd fits
 
-  pub stops_right : (ts rest : List Token) → Lacks f ts → Stops g ts rest → Stops (alt f g) ts rest
+  pub stops_right : (ts rest : List Token) → Lacks f ts → IsStuckAt g ts rest → IsStuckAt (alt f g) ts rest
   stops_right ts rest lacks p = record {
     seen = p.seen;
     cut = p.cut;
@@ -99,9 +99,9 @@ module _ (f g : Form) (apart : Disjoint (begins f) (begins g)) (f_full : nullabl
 
 module _ (f : Form) (full : nullable f ≡ false) where
   takes_some_only : (p : Tree) (rest : List Token) → Fits f p
-      → ((v : Tree) (r rest' : List Token) → SameHead rest rest' → Fits f v → Ends f r
+      → ((v : Tree) (r rest' : List Token) → SameHead rest rest' → Fits f v → CannotGoOn f r
       → spelled v ++ r ≡ spelled p ++ rest' → (v ≡ p) × (r ≡ rest'))
-      → (v : Tree) (r rest' : List Token) → SameHead rest rest' → Fits (opt f) v → Ends (opt f) r
+      → (v : Tree) (r rest' : List Token) → SameHead rest rest' → Fits (opt f) v → CannotGoOn (opt f) r
       → spelled v ++ r ≡ spelled p ++ rest' → (v ≡ some p) × (r ≡ rest')
   takes_some_only p rest p_fits f_only (some v) r rest' same fits ends e =
       let h = f_only v r rest' same fits (ends_opt f r ends) e in (cc, h.1)
@@ -120,7 +120,7 @@ module _ (f : Form) (full : nullable f ≡ false) where
   }
 
   takes_none_only : (rest : List Token) → Lacks f rest → (v : Tree) (r rest' : List Token) → SameHead rest rest'
-      → Fits (opt f) v → Ends (opt f) r → spelled v ++ r ≡ rest' → (v ≡ none) × (r ≡ rest')
+      → Fits (opt f) v → CannotGoOn (opt f) r → spelled v ++ r ≡ rest' → (v ≡ none) × (r ≡ rest')
   takes_none_only rest lacks none r rest' same fits ends e = (refl, e)
   takes_none_only rest lacks (some v) r rest' same fits ends e = absurd (lacks_clash f _ _
       (same_lacks f _ _ same lacks) (starts_with f v r full fits) (sym e))
@@ -130,9 +130,9 @@ module _ (f : Form) (full : nullable f ≡ false) where
   takes_none ts lacks = record { tree = none; fits = tt; cut = refl; means = refl; only = takes_none_only ts lacks }
 
   stops_some_stuck : (seen rest : List Token) → Starts f (seen ++ rest)
-      → ((v : Tree) (r rest' : List Token) → SameHead rest rest' → Fits f v → Ends f r
+      → ((v : Tree) (r rest' : List Token) → SameHead rest rest' → Fits f v → CannotGoOn f r
       → spelled v ++ r ≡ seen ++ rest' → ⊥)
-      → (v : Tree) (r rest' : List Token) → SameHead rest rest' → Fits (opt f) v → Ends (opt f) r
+      → (v : Tree) (r rest' : List Token) → SameHead rest rest' → Fits (opt f) v → CannotGoOn (opt f) r
       → spelled v ++ r ≡ seen ++ rest' → ⊥
   stops_some_stuck seen rest starts f_stuck (some v) r rest' same fits ends e = f_stuck v r rest' same fits
       (ends_opt f r ends) e
@@ -140,7 +140,7 @@ module _ (f : Form) (full : nullable f ≡ false) where
       (same_starts f _ _ (same_head_after seen rest rest' same) starts))
   stops_some_stuck seen rest starts f_stuck _ r rest' same fits ends e = absurd fits
 
-  pub stops_some : (ts rest : List Token) → Starts f ts → Stops f ts rest → Stops (opt f) ts rest
+  pub stops_some : (ts rest : List Token) → Starts f ts → IsStuckAt f ts rest → IsStuckAt (opt f) ts rest
   stops_some ts rest starts p = record {
     seen = p.seen;
     cut = p.cut;

@@ -3,8 +3,8 @@ use Rattle.std.proofs.Common.{◌≡◌, false, List, ◌++◌, refl, sym, ap, �
 use Rattle.alg_tokens.specs.declared.token.Token.{Token}
 use Rattle.alg_reader.specs.Forms.{Rule, Form, many, rule, Tree, end, more, node, spelled}
 use Rattle.alg_reader.specs.Grammar.{grammar, Fits}
-use Rattle.alg_reader.specs.Ahead.{nullable, begins, goes_on, Ends, SameHead, Starts, Lacks}
-use Rattle.alg_reader.specs.Reading.{Takes, Stops}
+use Rattle.alg_reader.specs.Ahead.{nullable, begins, goes_on, CannotGoOn, SameHead, Starts, Lacks}
+use Rattle.alg_reader.specs.Reading.{Takes, IsStuckAt}
 use Rattle.alg_reader.specs.TermMeaning.{Value}
 use Rattle.alg_reader.specs.TermMeaning.{two, nothing}
 use Rattle.alg_reader.specs.Meaning.{act}
@@ -14,7 +14,7 @@ use Rattle.alg_reader.proofs.Ahead.{Disjoint, ends_at, same_head_after, starts_w
 
 module _ (f : Form) (full : nullable f ≡ false) (apart : Disjoint (goes_on f) (begins f)) where
   takes_end_only : (rest : List Token) → Lacks f rest → (v : Tree) (r rest' : List Token) → SameHead rest rest'
-      → Fits (many f) v → Ends (many f) r → spelled v ++ r ≡ rest' → (v ≡ end) × (r ≡ rest')
+      → Fits (many f) v → CannotGoOn (many f) r → spelled v ++ r ≡ rest' → (v ≡ end) × (r ≡ rest')
   takes_end_only rest lacks end r rest' same fits ends e = (refl, e)
   takes_end_only rest lacks (more v w) r rest' same fits ends e =
       absurd (lacks_clash f _ _ (same_lacks f _ _ same lacks) (starts_with f v (spelled w ++ r) full fits.0)
@@ -24,7 +24,7 @@ module _ (f : Form) (full : nullable f ≡ false) (apart : Disjoint (goes_on f) 
   pub takes_end : (ts : List Token) → Lacks f ts → Takes (many f) ts ts nothing
   takes_end ts lacks = record { tree = end; fits = tt; cut = refl; means = refl; only = takes_end_only ts lacks }
 
-  pub ends_turn : (w : Tree) (r : List Token) → Fits (many f) w → Ends (many f) r → Ends f (spelled w ++ r)
+  pub ends_turn : (w : Tree) (r : List Token) → Fits (many f) w → CannotGoOn (many f) r → CannotGoOn f (spelled w ++ r)
   ends_turn end r fits h = ends_opt f r h
   ends_turn (more v w) r fits h =
       let s = starts_with f v (spelled w ++ r) full fits.0 in
@@ -32,11 +32,11 @@ module _ (f : Form) (full : nullable f ≡ false) (apart : Disjoint (goes_on f) 
   ends_turn _ r fits h = absurd fits
 
   takes_more_only : (p q : Tree) (mid rest : List Token) → Fits f p → mid ≡ spelled q ++ rest
-      → ((v : Tree) (r rest' : List Token) → SameHead mid rest' → Fits f v → Ends f r
+      → ((v : Tree) (r rest' : List Token) → SameHead mid rest' → Fits f v → CannotGoOn f r
       → spelled v ++ r ≡ spelled p ++ rest' → (v ≡ p) × (r ≡ rest'))
-      → ((v : Tree) (r rest' : List Token) → SameHead rest rest' → Fits (many f) v → Ends (many f) r
+      → ((v : Tree) (r rest' : List Token) → SameHead rest rest' → Fits (many f) v → CannotGoOn (many f) r
       → spelled v ++ r ≡ spelled q ++ rest' → (v ≡ q) × (r ≡ rest'))
-      → (v : Tree) (r rest' : List Token) → SameHead rest rest' → Fits (many f) v → Ends (many f) r
+      → (v : Tree) (r rest' : List Token) → SameHead rest rest' → Fits (many f) v → CannotGoOn (many f) r
       → spelled v ++ r ≡ (spelled p ++ spelled q) ++ rest' → (v ≡ more p q) × (r ≡ rest')
   takes_more_only p q mid rest p_fits cut f_only g_only (more v w) r rest' same fits ends e =
       let e' : spelled v ++ (spelled w ++ r) ≡ spelled p ++ (spelled q ++ rest') = sym (append_assoc (spelled v)
@@ -61,9 +61,9 @@ module _ (f : Form) (full : nullable f ≡ false) (apart : Disjoint (goes_on f) 
   }
 
   stops_turn_stuck : (seen rest : List Token) → Starts f (seen ++ rest)
-      → ((v : Tree) (r rest' : List Token) → SameHead rest rest' → Fits f v → Ends f r
+      → ((v : Tree) (r rest' : List Token) → SameHead rest rest' → Fits f v → CannotGoOn f r
       → spelled v ++ r ≡ seen ++ rest' → ⊥)
-      → (v : Tree) (r rest' : List Token) → SameHead rest rest' → Fits (many f) v → Ends (many f) r
+      → (v : Tree) (r rest' : List Token) → SameHead rest rest' → Fits (many f) v → CannotGoOn (many f) r
       → spelled v ++ r ≡ seen ++ rest' → ⊥
   stops_turn_stuck seen rest starts f_stuck (more v w) r rest' same fits ends e =
       f_stuck v (spelled w ++ r) rest' same fits.0 (ends_turn w r fits.1 ends) (sym (append_assoc (spelled v)
@@ -72,7 +72,7 @@ module _ (f : Form) (full : nullable f ≡ false) (apart : Disjoint (goes_on f) 
       (same_starts f _ _ (same_head_after seen rest rest' same) starts))
   stops_turn_stuck seen rest starts f_stuck _ r rest' same fits ends e = absurd fits
 
-  pub stops_turn : (ts rest : List Token) → Starts f ts → Stops f ts rest → Stops (many f) ts rest
+  pub stops_turn : (ts rest : List Token) → Starts f ts → IsStuckAt f ts rest → IsStuckAt (many f) ts rest
   stops_turn ts rest starts p = record {
     seen = p.seen;
     cut = p.cut;
@@ -81,11 +81,11 @@ module _ (f : Form) (full : nullable f ≡ false) (apart : Disjoint (goes_on f) 
   }
 
   stops_later_stuck : (p : Tree) (seen mid rest : List Token) → Fits f p → mid ≡ seen ++ rest
-      → ((v : Tree) (r rest' : List Token) → SameHead mid rest' → Fits f v → Ends f r
+      → ((v : Tree) (r rest' : List Token) → SameHead mid rest' → Fits f v → CannotGoOn f r
       → spelled v ++ r ≡ spelled p ++ rest' → (v ≡ p) × (r ≡ rest'))
-      → ((v : Tree) (r rest' : List Token) → SameHead rest rest' → Fits (many f) v → Ends (many f) r
+      → ((v : Tree) (r rest' : List Token) → SameHead rest rest' → Fits (many f) v → CannotGoOn (many f) r
       → spelled v ++ r ≡ seen ++ rest' → ⊥)
-      → (v : Tree) (r rest' : List Token) → SameHead rest rest' → Fits (many f) v → Ends (many f) r
+      → (v : Tree) (r rest' : List Token) → SameHead rest rest' → Fits (many f) v → CannotGoOn (many f) r
       → spelled v ++ r ≡ (spelled p ++ seen) ++ rest' → ⊥
   stops_later_stuck p seen mid rest p_fits cut f_only g_stuck (more v w) r rest' same fits ends e =
       let e' : spelled v ++ (spelled w ++ r) ≡ spelled p ++ (seen ++ rest') = sym (append_assoc (spelled v)
@@ -97,8 +97,8 @@ module _ (f : Form) (full : nullable f ≡ false) (apart : Disjoint (goes_on f) 
       ends_clash f r ends (rw (e ∙ append_assoc (spelled p) seen rest') (starts_with f p (seen ++ rest') full p_fits))
   stops_later_stuck p seen mid rest p_fits cut f_only g_stuck _ r rest' same fits ends e = absurd fits
 
-  pub stops_later : (ts mid rest : List Token) (x : Value) → Takes f ts mid x → Stops (many f) mid rest
-      → Stops (many f) ts rest
+  pub stops_later : (ts mid rest : List Token) (x : Value) → Takes f ts mid x → IsStuckAt (many f) mid rest
+      → IsStuckAt (many f) ts rest
   stops_later ts mid rest x p q = record {
     seen = spelled p.tree ++ q.seen;
     cut = p.cut ∙ ap (λ us. spelled p.tree ++ us) q.cut ∙ sym (append_assoc (spelled p.tree) q.seen rest);
@@ -115,9 +115,9 @@ module _ (f : Form) (full : nullable f ≡ false) (apart : Disjoint (goes_on f) 
 -- ---- rules
 
 takes_rule_only : (q : Rule) (p : Tree) (rest : List Token)
-    → ((v : Tree) (r rest' : List Token) → SameHead rest rest' → Fits (grammar q) v → Ends (grammar q) r
+    → ((v : Tree) (r rest' : List Token) → SameHead rest rest' → Fits (grammar q) v → CannotGoOn (grammar q) r
     → spelled v ++ r ≡ spelled p ++ rest' → (v ≡ p) × (r ≡ rest'))
-    → (v : Tree) (r rest' : List Token) → SameHead rest rest' → Fits (rule q) v → Ends (rule q) r
+    → (v : Tree) (r rest' : List Token) → SameHead rest rest' → Fits (rule q) v → CannotGoOn (rule q) r
     → spelled v ++ r ≡ spelled p ++ rest' → (v ≡ node q p) × (r ≡ rest')
 takes_rule_only q p rest only (node q' v) r rest' same fits ends e =
     let h = only v r rest' same fits.1 (ends_rule q r ends) e in let k = fits.0 in (cc, h.1)
@@ -137,15 +137,15 @@ takes_rule q ts rest x p = record {
 }
 
 stops_rule_stuck : (q : Rule) (seen rest : List Token)
-    → ((v : Tree) (r rest' : List Token) → SameHead rest rest' → Fits (grammar q) v → Ends (grammar q) r
+    → ((v : Tree) (r rest' : List Token) → SameHead rest rest' → Fits (grammar q) v → CannotGoOn (grammar q) r
     → spelled v ++ r ≡ seen ++ rest' → ⊥)
-    → (v : Tree) (r rest' : List Token) → SameHead rest rest' → Fits (rule q) v → Ends (rule q) r
+    → (v : Tree) (r rest' : List Token) → SameHead rest rest' → Fits (rule q) v → CannotGoOn (rule q) r
     → spelled v ++ r ≡ seen ++ rest' → ⊥
 stops_rule_stuck q seen rest stuck (node q' v) r rest' same fits ends e = stuck v r rest' same fits.1
     (ends_rule q r ends) e
 stops_rule_stuck q seen rest stuck _ r rest' same fits ends e = absurd fits
 
-pub stops_rule : (q : Rule) (ts rest : List Token) → Stops (grammar q) ts rest → Stops (rule q) ts rest
+pub stops_rule : (q : Rule) (ts rest : List Token) → IsStuckAt (grammar q) ts rest → IsStuckAt (rule q) ts rest
 stops_rule q ts rest p = record {
   seen = p.seen;
   cut = p.cut;

@@ -5,14 +5,14 @@ use Rattle.alg_tokens.specs.declared.token.TokenKind.{TokenKind}
 use Rattle.alg_reader.specs.Kinds.{variant, code}
 use Rattle.alg_reader.specs.Forms.{Form, a, seq, Tree, token, pair, spelled}
 use Rattle.alg_reader.specs.Grammar.{Fits}
-use Rattle.alg_reader.specs.Ahead.{begins, goes_on, Ends, SameHead}
-use Rattle.alg_reader.specs.Reading.{Takes, Stops}
+use Rattle.alg_reader.specs.Ahead.{begins, goes_on, CannotGoOn, SameHead}
+use Rattle.alg_reader.specs.Reading.{Takes, IsStuckAt}
 use Rattle.alg_reader.specs.TermMeaning.{Value}
 use Rattle.alg_reader.specs.TermMeaning.{one, two}
 use Rattle.alg_reader.proofs.Ahead.{Disjoint, ends_first, ends_second, same_head_after}
 
 takes_token_only : (k : TokenKind) (t : Token) (rest : List Token) (v : Tree) (r rest' : List Token)
-    → SameHead rest rest' → Fits (a k) v → Ends (a k) r → spelled v ++ r ≡ t ∷ rest' → (v ≡ token t) × (r ≡ rest')
+    → SameHead rest rest' → Fits (a k) v → CannotGoOn (a k) r → spelled v ++ r ≡ t ∷ rest' → (v ≡ token t) × (r ≡ rest')
 takes_token_only k t rest (token u) r rest' same fits ends e = (cc, cc)
 takes_token_only k t rest _ r rest' same fits ends e = absurd fits
 
@@ -21,7 +21,7 @@ pub takes_token : (k : TokenKind) (t : Token) (rest : List Token) → variant k 
 takes_token k t rest h = record { tree = token t; fits = h; cut = refl; means = refl; only = takes_token_only k t rest }
 
 stops_token_stuck : (k : TokenKind) (t : Token) (rest : List Token) → (variant k ≡ code t → ⊥)
-    → (v : Tree) (r rest' : List Token) → SameHead (t ∷ rest) rest' → Fits (a k) v → Ends (a k) r
+    → (v : Tree) (r rest' : List Token) → SameHead (t ∷ rest) rest' → Fits (a k) v → CannotGoOn (a k) r
     → spelled v ++ r ≡ rest' → ⊥
 stops_token_stuck k t rest other (token u) r rest' same fits ends e = other (let same_token : t ≡ u = cc in
     fits ∙ ap code (sym same_token))
@@ -36,7 +36,7 @@ unfolding an
 an-code k = refl
 
 pub stops_token : (k : TokenKind) (t : Token) (rest : List Token) → (variant k ≡ code t → ⊥)
-    → Stops (a k) (t ∷ rest) (t ∷ rest)
+    → IsStuckAt (a k) (t ∷ rest) (t ∷ rest)
 stops_token k t rest other = record {
   seen = [];
   cut = refl;
@@ -53,11 +53,11 @@ stops_token k t rest other = record {
 
 module _ (f g : Form) (apart : Disjoint (goes_on f) (begins g)) where
   takes_seq_only : (p q : Tree) (mid rest : List Token) → mid ≡ spelled q ++ rest
-      → ((v : Tree) (r rest' : List Token) → SameHead mid rest' → Fits f v → Ends f r
+      → ((v : Tree) (r rest' : List Token) → SameHead mid rest' → Fits f v → CannotGoOn f r
       → spelled v ++ r ≡ spelled p ++ rest' → (v ≡ p) × (r ≡ rest'))
-      → ((v : Tree) (r rest' : List Token) → SameHead rest rest' → Fits g v → Ends g r
+      → ((v : Tree) (r rest' : List Token) → SameHead rest rest' → Fits g v → CannotGoOn g r
       → spelled v ++ r ≡ spelled q ++ rest' → (v ≡ q) × (r ≡ rest'))
-      → (v : Tree) (r rest' : List Token) → SameHead rest rest' → Fits (seq f g) v → Ends (seq f g) r
+      → (v : Tree) (r rest' : List Token) → SameHead rest rest' → Fits (seq f g) v → CannotGoOn (seq f g) r
       → spelled v ++ r ≡ (spelled p ++ spelled q) ++ rest' → (v ≡ pair p q) × (r ≡ rest')
   takes_seq_only p q mid rest cut f_only g_only (pair v w) r rest' same fits ends e =
       let e' : spelled v ++ (spelled w ++ r) ≡ spelled p ++ (spelled q ++ rest') = sym (append_assoc (spelled v)
@@ -80,11 +80,11 @@ module _ (f g : Form) (apart : Disjoint (goes_on f) (begins g)) where
   }
 
   stops_second_stuck : (p : Tree) (seen mid rest : List Token) → mid ≡ seen ++ rest
-      → ((v : Tree) (r rest' : List Token) → SameHead mid rest' → Fits f v → Ends f r
+      → ((v : Tree) (r rest' : List Token) → SameHead mid rest' → Fits f v → CannotGoOn f r
       → spelled v ++ r ≡ spelled p ++ rest' → (v ≡ p) × (r ≡ rest'))
-      → ((v : Tree) (r rest' : List Token) → SameHead rest rest' → Fits g v → Ends g r
+      → ((v : Tree) (r rest' : List Token) → SameHead rest rest' → Fits g v → CannotGoOn g r
       → spelled v ++ r ≡ seen ++ rest' → ⊥)
-      → (v : Tree) (r rest' : List Token) → SameHead rest rest' → Fits (seq f g) v → Ends (seq f g) r
+      → (v : Tree) (r rest' : List Token) → SameHead rest rest' → Fits (seq f g) v → CannotGoOn (seq f g) r
       → spelled v ++ r ≡ (spelled p ++ seen) ++ rest' → ⊥
   stops_second_stuck p seen mid rest cut f_only g_stuck (pair v w) r rest' same fits ends e =
       let e' : spelled v ++ (spelled w ++ r) ≡ spelled p ++ (seen ++ rest') = sym (append_assoc (spelled v)
@@ -94,8 +94,8 @@ module _ (f g : Form) (apart : Disjoint (goes_on f) (begins g)) where
       g_stuck w r rest' same fits.1 (ends_second f g r ends) first.1
   stops_second_stuck p seen mid rest cut f_only g_stuck _ r rest' same fits ends e = absurd fits
 
-  pub stops_second : (ts mid rest : List Token) (x : Value) → Takes f ts mid x → Stops g mid rest
-      → Stops (seq f g) ts rest
+  pub stops_second : (ts mid rest : List Token) (x : Value) → Takes f ts mid x → IsStuckAt g mid rest
+      → IsStuckAt (seq f g) ts rest
   stops_second ts mid rest x p q = record {
     seen = spelled p.tree ++ q.seen;
     cut = p.cut ∙ ap (λ us. spelled p.tree ++ us) q.cut ∙ sym (append_assoc (spelled p.tree) q.seen rest);
@@ -110,16 +110,16 @@ module _ (f g : Form) (apart : Disjoint (goes_on f) (begins g)) where
   }
 
   stops_first_stuck : (seen rest : List Token)
-      → ((v : Tree) (r rest' : List Token) → SameHead rest rest' → Fits f v → Ends f r
+      → ((v : Tree) (r rest' : List Token) → SameHead rest rest' → Fits f v → CannotGoOn f r
       → spelled v ++ r ≡ seen ++ rest' → ⊥)
-      → (v : Tree) (r rest' : List Token) → SameHead rest rest' → Fits (seq f g) v → Ends (seq f g) r
+      → (v : Tree) (r rest' : List Token) → SameHead rest rest' → Fits (seq f g) v → CannotGoOn (seq f g) r
       → spelled v ++ r ≡ seen ++ rest' → ⊥
   stops_first_stuck seen rest f_stuck (pair v w) r rest' same fits ends e =
       f_stuck v (spelled w ++ r) rest' same fits.0 (ends_first f g w r apart fits.1 ends) (sym (append_assoc
       (spelled v) (spelled w) r) ∙ e)
   stops_first_stuck seen rest f_stuck _ r rest' same fits ends e = absurd fits
 
-  pub stops_first : (ts rest : List Token) → (w : Tree) × Fits g w → Stops f ts rest → Stops (seq f g) ts rest
+  pub stops_first : (ts rest : List Token) → (w : Tree) × Fits g w → IsStuckAt f ts rest → IsStuckAt (seq f g) ts rest
   stops_first ts rest some_g p = record {
     seen = p.seen;
     cut = p.cut;

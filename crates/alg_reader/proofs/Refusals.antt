@@ -9,7 +9,7 @@ use Rattle.alg_tokens.specs.declared.token.Sign.TheVariants as signs
 use Rattle.alg_tokens.specs.Codes.{code_number, fault_at}
 use Rattle.alg_reader.specs.Forms.{Statement, rule, spelled}
 use Rattle.alg_reader.specs.Grammar.{IsBegun}
-use Rattle.alg_reader.specs.Reading.{Stops}
+use Rattle.alg_reader.specs.Reading.{IsStuckAt}
 use Rattle.alg_reader.specs.Ahead.{rule_goes_on}
 use Rattle.alg_reader.specs.Tokens.{Unread, refusal, refusal_of, TokensTo, GoesPast, HasNoDot, IsStatementCut}
 use Rattle.alg_reader.specs.declared.place.Place.{Place}
@@ -39,7 +39,8 @@ refusal_of_kind (kinds.Number value) at fault other = refl
 refusal_of_kind (kinds.Sign sign) at fault other = refl
 
 -- stuck at a token of the statement
-stuck_token : (unread : Unread) (site : Place) (text : List ℕ) (at stop : ℕ) (ts seen after : List Token) (t : Token) (fault : Refusal)
+stuck_token : (unread : Unread) (site : Place) (text : List ℕ) (at stop : ℕ) (ts seen after : List Token) (t : Token)
+    (fault : Refusal)
     → TokensTo text at ts stop → GoesPast unread 0 None seen → HasNoDot seen → ts ≡ seen ++ t ∷ after
     → IsBegun (rule Statement) seen → (IsBegun (rule Statement) (seen ++ t ∷ []) → ⊥) → t.kind ≢ kinds.End
     → IsRead unread site text at (Err (Refused (refusal t fault)))
@@ -52,7 +53,8 @@ stuck_token unread site text at stop ts seen after t fault to past clear same be
     (seen, mid, (front, past, clear), begun, inr (inr (t, next, lexeme, inl (refl, stuck))))
 
 -- a token among all of them
-stuck_inside : (unread : Unread) (site : Place) (text : List ℕ) (at : ℕ) (ts seen rest : List Token) (e t : Token) (fault : Refusal)
+stuck_inside : (unread : Unread) (site : Place) (text : List ℕ) (at : ℕ) (ts seen rest : List Token) (e t : Token)
+    (fault : Refusal)
     → e.kind ≡ kinds.End → IsStatementCut unread text at ts fault
     → ts ++ e ∷ [] ≡ seen ++ t ∷ rest → IsBegun (rule Statement) seen
     → (IsBegun (rule Statement) (seen ++ t ∷ []) → ⊥) → t.kind ≢ kinds.End
@@ -60,11 +62,14 @@ stuck_inside : (unread : Unread) (site : Place) (text : List ℕ) (at : ℕ) (ts
 stuck_inside unread site text at ts seen rest e t fault is (inl (mid, (to, past, clear), _)) cut begun stuck lexeme =
     let (after, same) = split_token ts seen rest e t is lexeme cut in
     stuck_token unread site text at mid ts seen after t fault to (past_split unread 0 None seen (t ∷ after) (subst
-    (GoesPast unread 0 None) same past)) (dot_split seen (t ∷ after) (subst HasNoDot same clear)) same begun stuck lexeme
-stuck_inside unread site text at ts seen rest e t fault is (inr (inl (mid, (to, past, clear), _, _))) cut begun stuck lexeme =
+    (GoesPast unread 0 None) same past)) (dot_split seen (t ∷ after)
+    (subst HasNoDot same clear)) same begun stuck lexeme
+stuck_inside unread site text at ts seen rest e t fault is
+    (inr (inl (mid, (to, past, clear), _, _))) cut begun stuck lexeme =
     let (after, same) = split_token ts seen rest e t is lexeme cut in
     stuck_token unread site text at mid ts seen after t fault to (past_split unread 0 None seen (t ∷ after) (subst
-    (GoesPast unread 0 None) same past)) (dot_split seen (t ∷ after) (subst HasNoDot same clear)) same begun stuck lexeme
+    (GoesPast unread 0 None) same past)) (dot_split seen (t ∷ after)
+    (subst HasNoDot same clear)) same begun stuck lexeme
 stuck_inside unread site text at ts seen rest e t fault is (inr (inr (
   before,
   last,
@@ -84,7 +89,7 @@ stuck_inside unread site text at ts seen rest e t fault is (inr (inr (
     (subst HasNoDot front clear)) same begun stuck lexeme
 
 -- stuck behind a dot: the tokens are a statement
-never_behind_dot : (before us rest : List Token) (last t : Token) (p : Stops (rule Statement) us (t ∷ rest))
+never_behind_dot : (before us rest : List Token) (last t : Token) (p : IsStuckAt (rule Statement) us (t ∷ rest))
     → p.seen ≡ before ++ last ∷ [] → HasNoDot before
     → last.kind ≡ kinds.Sign signs.Dot → t.kind ≡ kinds.End → ⊥
 unfolding rule_goes_on
@@ -98,9 +103,11 @@ never_behind_dot before us rest last t p all clear dot is =
     p.stuck v (t ∷ rest) (t ∷ rest) (t, rest, rest, refl, refl) fits refl (ap (λ us. us ++ t ∷ rest) whole)
 
 -- stuck behind all tokens
-stuck_behind : (unread : Unread) (site : Place) (text : List ℕ) (at : ℕ) (ts us rest : List Token) (t : Token) (fault : Refusal)
-    → IsStatementCut unread text at ts fault → (p : Stops (rule Statement) us (t ∷ rest))
-    → p.seen ≡ ts → t.kind ≡ kinds.End → (ts ≡ [] → fault.code ≡ code_number code.End → ⊥) → IsRead unread site text at (Err (Refused fault))
+stuck_behind : (unread : Unread) (site : Place) (text : List ℕ) (at : ℕ) (ts us rest : List Token) (t : Token)
+    (fault : Refusal)
+    → IsStatementCut unread text at ts fault → (p : IsStuckAt (rule Statement) us (t ∷ rest))
+    → p.seen ≡ ts → t.kind ≡ kinds.End → (ts ≡ [] → fault.code ≡ code_number code.End → ⊥) →
+    IsRead unread site text at (Err (Refused fault))
 unfolding IsRead
 stuck_behind unread site text at ts us rest t fault (inl (mid, reaches, next)) p all is inside = (
   ts,
@@ -155,7 +162,8 @@ stuck_behind unread site text at ts us rest t fault (inr (inr (
       )),
     )
 
-cut_tokens : (unread : Unread) (text : List ℕ) (at : ℕ) (ts : List Token) (fault : Refusal) → IsStatementCut unread text at ts fault
+cut_tokens : (unread : Unread) (text : List ℕ) (at : ℕ) (ts : List Token) (fault : Refusal) →
+    IsStatementCut unread text at ts fault
     → (stop : ℕ) × TokensTo text at ts stop
 cut_tokens unread text at ts fault (inl (mid, (to, _, _), _)) = (mid, to)
 cut_tokens unread text at ts fault (inr (inl (mid, (to, _, _), _, _))) = (mid, to)
@@ -163,9 +171,10 @@ cut_tokens unread text at ts fault (inr (inr (before, last, mid, split, (to, _, 
     let P : List Token → Type 0 = λ us. TokensTo text at us last.stop in
     (last.stop, subst P (sym split) (tokens_more text at mid before last to next lexeme))
 
-pub read_refused : (unread : Unread) (site : Place) (text : List ℕ) (at : ℕ) (ts rest : List Token) (e t : Token) (fault : Refusal)
+pub read_refused : (unread : Unread) (site : Place) (text : List ℕ) (at : ℕ) (ts rest : List Token) (e t : Token)
+    (fault : Refusal)
     → e.kind ≡ kinds.End → IsStatementCut unread text at ts fault
-    → (ts ≡ [] → fault.code ≡ code_number code.End → ⊥) → Stops (rule Statement) (ts ++ e ∷ []) (t ∷ rest)
+    → (ts ≡ [] → fault.code ≡ code_number code.End → ⊥) → IsStuckAt (rule Statement) (ts ++ e ∷ []) (t ∷ rest)
     → IsRead unread site text at (Err (Refused (refusal t fault)))
 read_refused unread site text at ts rest e t fault is cut inside p = elim (end_or_not t.kind) [
   | inr lexeme ↦ stuck_inside unread site text at ts p.seen rest e t fault is cut p.cut p.begun (stuck_there

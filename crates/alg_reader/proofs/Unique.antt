@@ -9,7 +9,7 @@ use Rattle.alg_tokens.specs.declared.token.Word.TheVariants as words
 use Rattle.alg_reader.specs.Forms as rules
 use Rattle.alg_reader.specs.Forms.{Rule, Form, a, seq, alt, opt, many, rule, Tree, token, pair, left, right, none, some, end, more, node, spelled}
 use Rattle.alg_reader.specs.Grammar.{grammar, Fits, zero, number, word, sign, option, using, inside}
-use Rattle.alg_reader.specs.Ahead.{nullable, begins, goes_on, Ends, Starts}
+use Rattle.alg_reader.specs.Ahead.{nullable, begins, goes_on, CannotGoOn, Starts}
 use Rattle.alg_reader.proofs.Ahead.{Disjoint, ends_first, ends_second, ends_opt, ends_left, ends_right, ends_rule, ends_clash, clash, starts_with}
 use Rattle.alg_reader.proofs.ReadRows.{ends_turn}
 use Rattle.alg_reader.proofs.Powers.{unary_apart, power_apart}
@@ -183,7 +183,7 @@ good_grammar rules.Leaf = (
 )
 
 -- Two derivations from one form that spell the fronts of one text, each up to where it could end, are one.
-unique : (f : Form) → IsGood f → (v w : Tree) (r s : List Token) → Fits f v → Fits f w → Ends f r → Ends f s
+unique : (f : Form) → IsGood f → (v w : Tree) (r s : List Token) → Fits f v → Fits f w → CannotGoOn f r → CannotGoOn f s
     → spelled v ++ r ≡ spelled w ++ s → (v ≡ w) × (r ≡ s)
 unique (a k) good (token t) (token u) r s h k' er es e = (cc, cc)
 unique (a k) good (token t) _ r s h k' er es e = absurd k'

@@ -1,27 +1,46 @@
 -- One token ahead: how derivations begin, and how they could go on.
-use Rattle.std.specs.Prelude.{◌≡◌, ℕ, ◌||◌, ◌&&◌, ◌==◌, Bool, true, false, List, [], ◌∷◌, ◌⊎◌}
+use Rattle.std.specs.Prelude.{◌≡◌, ℕ, ◌||◌, ◌&&◌, ◌==◌, Bool, true, false, List, [], ◌∷◌, ◌⊎◌, ℤ, pos}
 use Rattle.alg_tokens.specs.declared.token.Token.{Token}
 use Rattle.alg_tokens.specs.declared.token.TokenKind.{TokenKind}
+use Rattle.alg_tokens.specs.declared.token.TokenKind.TheVariants as kinds
+use Rattle.alg_tokens.specs.declared.token.Sign.{Sign}
+use Rattle.alg_tokens.specs.declared.token.Sign.TheVariants as signs
+use Rattle.alg_tokens.specs.declared.token.Word.{Word}
+use Rattle.alg_tokens.specs.declared.token.Word.TheVariants as words
 use Rattle.alg_reader.specs.Kinds.{variant, code}
 use Rattle.alg_reader.specs.Forms.{Rule, Statement, Ring, Sort, Hom, Vars, Hyp, Goal, Method, Use, Sum, Product, Unary, Power, Leaf, Form, a, seq, alt, opt, many, rule}
 
+-- the number is that of this word, of this sign, of names or of this numeral
+abbrev pub is_word : Word → ℕ → Bool
+is_word word n = n == variant (kinds.Word word)
+
+abbrev pub is_sign : Sign → ℕ → Bool
+is_sign sign n = n == variant (kinds.Sign sign)
+
+abbrev pub is_name : ℕ → Bool
+is_name n = n == variant kinds.Name
+
+abbrev pub is_numeral : ℤ → ℕ → Bool
+is_numeral value n = n == variant (kinds.Number value)
+
 -- the kinds of token that begin a derivation from the rule, and those that could go on with one
 abbrev pub begins_leaf : ℕ → Bool
-begins_leaf n = n == 0 || n == 1 || n == 2 || n == 10
+begins_leaf n = is_name n || is_numeral (pos 0) n || is_numeral (pos 1) n || is_sign signs.ParenLeft n
 
 unfoldable pub rule_begins : Rule → ℕ → Bool
-rule_begins Statement n = n == 43 || n == 26 || n == 27 || n == 30 || n == 49 || n == 31 || n == 29
-rule_begins Ring n = n == 43
-rule_begins Sort n = n == 26 || n == 27
-rule_begins Hom n = n == 30
-rule_begins Vars n = n == 49
-rule_begins Hyp n = n == 31
-rule_begins Goal n = n == 29
-rule_begins Method n = n == 43 || n == 27 || n == 38
-rule_begins Use n = n == 0
-rule_begins Sum n = begins_leaf n || n == 13
-rule_begins Product n = begins_leaf n || n == 13
-rule_begins Unary n = begins_leaf n || n == 13
+rule_begins Statement n = is_word words.Ring n || is_word words.Domain n || is_word words.Field n
+    || is_word words.Hom n || is_word words.Var n || is_word words.Hyp n || is_word words.Goal n
+rule_begins Ring n = is_word words.Ring n
+rule_begins Sort n = is_word words.Domain n || is_word words.Field n
+rule_begins Hom n = is_word words.Hom n
+rule_begins Vars n = is_word words.Var n
+rule_begins Hyp n = is_word words.Hyp n
+rule_begins Goal n = is_word words.Goal n
+rule_begins Method n = is_word words.Ring n || is_word words.Field n || is_word words.Nsatz n
+rule_begins Use n = is_name n
+rule_begins Sum n = begins_leaf n || is_sign signs.Minus n
+rule_begins Product n = begins_leaf n || is_sign signs.Minus n
+rule_begins Unary n = begins_leaf n || is_sign signs.Minus n
 rule_begins Power n = begins_leaf n
 rule_begins Leaf n = begins_leaf n
 
@@ -29,18 +48,23 @@ rule_begins Leaf n = begins_leaf n
 unfoldable pub rule_goes_on : Rule → ℕ → Bool
 rule_goes_on Statement n = false
 rule_goes_on Ring n = false
-rule_goes_on Sort n = n == 23
+rule_goes_on Sort n = is_word words.Char n
 rule_goes_on Hom n = false
 rule_goes_on Vars n = false
-rule_goes_on Hyp n = n == 10 || n == 16 || n == 14 || n == 15 || n == 12 || n == 13
-rule_goes_on Goal n = n == 10 || n == 6 || n == 48 || n == 40 || n == 33
-rule_goes_on Method n = n == 10 || n == 6 || n == 48 || n == 40 || n == 33
-rule_goes_on Use n = n == 10
-rule_goes_on Sum n = n == 10 || n == 16 || n == 14 || n == 15 || n == 12 || n == 13
-rule_goes_on Product n = n == 10 || n == 16 || n == 14 || n == 15
-rule_goes_on Unary n = n == 10 || n == 16
-rule_goes_on Power n = n == 10 || n == 16
-rule_goes_on Leaf n = n == 10
+rule_goes_on Hyp n = is_sign signs.ParenLeft n || is_sign signs.Caret n || is_sign signs.Star n
+    || is_sign signs.Slash n || is_sign signs.Plus n || is_sign signs.Minus n
+rule_goes_on Goal n = is_sign signs.ParenLeft n || is_sign signs.Comma n || is_word words.Using n
+    || is_word words.Power n || is_word words.Limit n
+rule_goes_on Method n = is_sign signs.ParenLeft n || is_sign signs.Comma n || is_word words.Using n
+    || is_word words.Power n || is_word words.Limit n
+rule_goes_on Use n = is_sign signs.ParenLeft n
+rule_goes_on Sum n = is_sign signs.ParenLeft n || is_sign signs.Caret n || is_sign signs.Star n
+    || is_sign signs.Slash n || is_sign signs.Plus n || is_sign signs.Minus n
+rule_goes_on Product n = is_sign signs.ParenLeft n || is_sign signs.Caret n || is_sign signs.Star n
+    || is_sign signs.Slash n
+rule_goes_on Unary n = is_sign signs.ParenLeft n || is_sign signs.Caret n
+rule_goes_on Power n = is_sign signs.ParenLeft n || is_sign signs.Caret n
+rule_goes_on Leaf n = is_sign signs.ParenLeft n
 
 -- the form derives the empty list of tokens
 abbrev pub nullable : Form → Bool
@@ -70,9 +94,9 @@ goes_on (many f) n = begins f n || goes_on f n
 goes_on (rule r) n = rule_goes_on r n
 
 -- the tokens do not go on with a derivation from the form
-abbrev pub Ends : Form → List Token → Type 0
-Ends f [] = Unit {0}
-Ends f (t ∷ ts) = goes_on f (code t) ≡ false
+abbrev pub CannotGoOn : Form → List Token → Type 0
+CannotGoOn f [] = Unit {0}
+CannotGoOn f (t ∷ ts) = goes_on f (code t) ≡ false
 
 -- both begin with one token
 abbrev pub SameHead : List Token → List Token → Type 0

@@ -12,9 +12,11 @@ use Rattle.alg_reader.specs.WellRead.{IsWellRead, IsReadable}
 -- whatever is read of a text, where it may be cut, is well read, and a method by which it has a goal can be read
 abbrev pub StatementsAreWellRead : Type 0
 StatementsAreWellRead = (unread : Unread) (place : Place) (text : List ℕ) (at : ℕ) (raw : Raw) → IsUtf8 text
-    → IsCharBoundary text at → IsRead unread place text at (Ok raw) → IsWellRead text at raw × IsReadable unread raw.kind
+    → IsCharBoundary text at → IsRead unread place text at (Ok raw) → IsWellRead text at raw
+    × IsReadable unread raw.kind
 
 -- at each place of a text there is at most one statement, end or first fault
 abbrev pub OneOutcome : Type 0
 OneOutcome = (unread : Unread) (place : Place) (text : List ℕ) (at : ℕ) (one other : Result Raw FileEnd)
-    → IsRead unread place text at one → IsRead unread place text at other → one ≢ Err NoMemory → other ≢ Err NoMemory → one ≡ other
+    → IsRead unread place text at one → IsRead unread place text at other → one ≢ Err NoMemory →
+    other ≢ Err NoMemory → one ≡ other

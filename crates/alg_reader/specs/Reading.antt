@@ -10,15 +10,15 @@ use Rattle.alg_reader.specs.TermMeaning.{Value, chain}
 use Rattle.alg_reader.specs.Meaning.{value, kind_value}
 use Rattle.alg_reader.specs.TermMeaning.{one, two, term, used}
 use Rattle.alg_reader.specs.PartMeaning.{spans, uses_after}
-use Rattle.alg_reader.specs.Parts.{held, said}
+use Rattle.alg_reader.specs.Parts.{held, held_statement}
 use Rattle.alg_reader.specs.declared.raw.Span.{Span}
 use Rattle.alg_reader.specs.declared.raw.RawTerm.{RawTerm}
 use Rattle.alg_reader.specs.declared.raw.RawUse.{RawUse}
-use Rattle.alg_reader.specs.declared.parts.Part.{Part}
-use Rattle.alg_reader.specs.declared.parts.Said.{Said}
+use Rattle.alg_reader.specs.declared.parts.HeldTerm.{HeldTerm}
+use Rattle.alg_reader.specs.declared.parts.HeldStatement.{HeldStatement}
 use Rattle.alg_reader.specs.declared.cursor.Fault.{Fault}
 use Rattle.alg_reader.specs.declared.cursor.Fault.TheVariants.{NoMemory, Unexpected}
-use Rattle.alg_reader.specs.Ahead.{Ends, SameHead}
+use Rattle.alg_reader.specs.Ahead.{CannotGoOn, SameHead}
 
 -- The first of the tokens are a derivation from the form, which means x, and the rest follow. Whatever comes after
 -- the next token, no other derivation that could end begins here.
@@ -27,21 +27,21 @@ pub record Takes (f : Form) (ts rest : List Token) (x : Value) : Type 0 where
   pub fits : Fits f tree
   pub cut : ts ≡ spelled tree ++ rest
   pub means : value tree ≡ x
-  pub only : (v : Tree) (r rest' : List Token) → SameHead rest rest' → Fits f v → Ends f r
+  pub only : (v : Tree) (r rest' : List Token) → SameHead rest rest' → Fits f v → CannotGoOn f r
       → spelled v ++ r ≡ spelled tree ++ rest' → (v ≡ tree) × (r ≡ rest')
 
 -- The tokens up to the rest begin a derivation, and with the next token they begin none.
-pub record Stops (f : Form) (ts rest : List Token) : Type 0 where
+pub record IsStuckAt (f : Form) (ts rest : List Token) : Type 0 where
   pub seen : List Token
   pub cut : ts ≡ seen ++ rest
   pub begun : IsBegun f seen
-  pub stuck : (v : Tree) (r rest' : List Token) → SameHead rest rest' → Fits f v → Ends f r
+  pub stuck : (v : Tree) (r rest' : List Token) → SameHead rest rest' → Fits f v → CannotGoOn f r
       → spelled v ++ r ≡ seen ++ rest' → ⊥
 
 -- why a reader of the form stops
 abbrev pub Fails : Form → List Token → Fault → Type 0
 Fails f ts NoMemory = Unit {0}
-Fails f ts (Unexpected t) = (rest : List Token) × Stops f ts (t ∷ rest)
+Fails f ts (Unexpected t) = (rest : List Token) × IsStuckAt f ts (t ∷ rest)
 
 -- what a reader of the form answers, whose value is seen by view
 abbrev pub Reads : {X : Type 0} → Form → (X → Value) → List Token → Result X Fault → List Token → Type 0
@@ -56,12 +56,12 @@ ReadsKept {Y = Y} f keep view old (Ok x) new = (y : Y) × (x ≡ keep y) × Take
 ReadsKept f keep view old (Err e) new = Fails f old e
 
 -- what a reader of terms answers, and one of statements
-abbrev pub ReadsTerm : Rule → List Token → Result Part Fault → List Token → Type 0
+abbrev pub ReadsTerm : Rule → List Token → Result HeldTerm Fault → List Token → Type 0
 ReadsTerm r = ReadsKept (rule r) held term
 
 -- what a reader of statements answers
-abbrev pub ReadsStatement : Form → List Token → Result Said Fault → List Token → Type 0
-ReadsStatement f = ReadsKept f said kind_value
+abbrev pub ReadsStatement : Form → List Token → Result HeldStatement Fault → List Token → Type 0
+ReadsStatement f = ReadsKept f held_statement kind_value
 
 -- what is kept of what the tokens taken mean
 abbrev pub ReadsAs : {X : Type 0} → Form → (Value → X) → List Token → Result X Fault → List Token → Type 0
@@ -73,7 +73,7 @@ TakesInside old new t = (p : Token) × (q : Token) × (p.kind ≡ kinds.Sign sig
     × Takes (inside (rule Sum)) old new (two (one p) (two (term t) (one q)))
 
 -- what a reader of a sum in parentheses answers
-abbrev pub ReadsInside : List Token → Result Part Fault → List Token → Type 0
+abbrev pub ReadsInside : List Token → Result HeldTerm Fault → List Token → Type 0
 ReadsInside old (Ok p) new = (t : RawTerm) × (p ≡ held t) × TakesInside old new t
 ReadsInside old (Err e) new = Fails (inside (rule Sum)) old e
 

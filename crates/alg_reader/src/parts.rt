@@ -13,7 +13,7 @@ use std::alloc::{AllocError, Global};
 
 /// What is kept of a term, its depth as far as it counts, and the head of its first too deep node.
 #[derive(Debug, Drop)]
-pub struct Part {
+pub struct HeldTerm {
     pub term: RawTerm,
     pub depth: u32,
     pub too_deep: Option<u32>,
@@ -21,17 +21,17 @@ pub struct Part {
 
 /// What is kept of a statement, and the head of its first too deep node.
 #[derive(Debug, Drop)]
-pub struct Said {
+pub struct HeldStatement {
     pub kind: RawKind,
     pub too_deep: Option<u32>,
 }
 
 /// The literal 0 in the place of a node that is too deep.
-fn left_out(head: u32, too_deep: Option<u32>) -> Part
+fn left_out(head: u32, too_deep: Option<u32>) -> HeldTerm
     ensures { result ≡ parts.left_out head too_deep }
 {
     let node = RawNode::Int(0);
-    Part {
+    HeldTerm {
         term: RawTerm { head, node },
         depth: GREATEST_DEPTH + 1,
         too_deep: too_deep.or(Some(head)),
@@ -39,11 +39,11 @@ fn left_out(head: u32, too_deep: Option<u32>) -> Part
 }
 
 /// A node that is not too deep.
-fn over(head: u32, node: RawNode, below: u32, too_deep: Option<u32>) -> Part
+fn over(head: u32, node: RawNode, below: u32, too_deep: Option<u32>) -> HeldTerm
     requires { below < MAX_DEPTH }
     ensures { result ≡ parts.over head node below too_deep }
 {
-    Part {
+    HeldTerm {
         term: RawTerm { head, node },
         depth: below + 1,
         too_deep,
@@ -69,7 +69,12 @@ fn joined(
 }
 
 /// An operator's node.
-pub fn binary(alloc: Global, op: Token, left: Part, right: Part) -> Result<Part, AllocError>
+pub fn binary(
+    alloc: Global,
+    op: Token,
+    left: HeldTerm,
+    right: HeldTerm,
+) -> Result<HeldTerm, AllocError>
     ensures { IfOk result (λ p. p ≡ parts.binary_part op left right) }
 {
     let below = left.depth.max(right.depth);
@@ -110,19 +115,19 @@ pub fn numeral_of(token: Token) -> RawNumber
     }
 }
 
-pub fn literal(token: Token) -> Part
+pub fn literal(token: Token) -> HeldTerm
     ensures { result ≡ parts.leaf_part (spec.literal token) }
 {
     over(token.start, RawNode::Int(number_of(token.kind)), 0, None)
 }
 
-pub fn variable(token: Token) -> Part
+pub fn variable(token: Token) -> HeldTerm
     ensures { result ≡ parts.leaf_part (spec.variable token) }
 {
     over(token.start, RawNode::Var(span_of(token)), 0, None)
 }
 
-pub fn image(alloc: Global, name: Token, of: Part) -> Result<Part, AllocError>
+pub fn image(alloc: Global, name: Token, of: HeldTerm) -> Result<HeldTerm, AllocError>
     ensures { IfOk result (λ p. p ≡ parts.image_part name of) }
 {
     if of.depth >= GREATEST_DEPTH {
@@ -132,7 +137,7 @@ pub fn image(alloc: Global, name: Token, of: Part) -> Result<Part, AllocError>
     Ok(over(name.start, node, of.depth, of.too_deep))
 }
 
-fn opposite(alloc: Global, head: u32, of: Part) -> Result<Part, AllocError>
+fn opposite(alloc: Global, head: u32, of: HeldTerm) -> Result<HeldTerm, AllocError>
     ensures { IfOk result (λ p. p ≡ parts.opposite_part head of) }
 {
     if of.depth >= GREATEST_DEPTH {
@@ -145,9 +150,9 @@ fn opposite(alloc: Global, head: u32, of: Part) -> Result<Part, AllocError>
 pub fn power_of(
     alloc: Global,
     caret: Token,
-    base: Part,
+    base: HeldTerm,
     exponent: Token,
-) -> Result<Part, AllocError>
+) -> Result<HeldTerm, AllocError>
     ensures { IfOk result (λ p. p ≡ parts.power_part caret base exponent) }
 {
     if base.depth >= GREATEST_DEPTH {
@@ -158,7 +163,7 @@ pub fn power_of(
 }
 
 /// The opposite of a term once for each head, the last head innermost.
-pub fn opposites(alloc: Global, heads: &[u32], of: Part) -> Result<Part, AllocError>
+pub fn opposites(alloc: Global, heads: &[u32], of: HeldTerm) -> Result<HeldTerm, AllocError>
     ensures { IfOk result (λ p. p ≡ parts.opposites_part heads.now of) }
 {
     let mut part = of;

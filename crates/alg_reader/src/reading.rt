@@ -8,7 +8,7 @@ ghost use Rattle.alg_reader.specs.Tokens.{refusal, unread_at};
 ghost use Rattle.alg_reader.specs.WellRead.{IsWellRead, IsReadable};
 
 use crate::cursor::{Cursor, Fault};
-use crate::parts::Said;
+use crate::parts::HeldStatement;
 use crate::place::Place;
 use crate::raw::RawKind;
 use crate::tokens::cut_statement;
@@ -72,7 +72,7 @@ pub fn read_statement(alloc: Global, text: &str, at: u32, place: Place) -> Resul
     let (start, stop) = ends_of(&cut.tokens, at);
     let mut cursor = Cursor::new(&cut.tokens, end);
     match cursor.statement(alloc) {
-        Ok(Said { kind, too_deep }) => Ok(Raw {
+        Ok(HeldStatement { kind, too_deep }) => Ok(Raw {
             kind,
             start,
             stop,

@@ -6,13 +6,13 @@ ghost use Rattle.alg_reader.specs.Forms as rules;
 ghost use Rattle.alg_reader.specs.Forms.{rule};
 ghost use Rattle.alg_reader.specs.Reading.{Reads, ReadsNames, ReadsStatement};
 ghost use Rattle.alg_reader.specs.Grammar.{body};
-ghost use Rattle.alg_reader.specs.Parts.{said, HasNoTerms};
+ghost use Rattle.alg_reader.specs.Parts.{held_statement, HasNoTerms};
 ghost use Rattle.alg_reader.specs.Meaning.{method_value};
 ghost use Rattle.alg_reader.specs.PartMeaning.{sides, sort_word, method_word};
 ghost use Rattle.alg_reader.specs.RawNodes.{is_unequal};
 
 use crate::cursor::{Cursor, Fault};
-use crate::parts::{Part, Said, span_of};
+use crate::parts::{HeldStatement, HeldTerm, span_of};
 use crate::raw::{RawEquation, RawKind, RawMethod, Span};
 use alg_terms::{Kind, Seq};
 use alg_tokens::{Sign, Token, TokenKind, Word};
@@ -20,16 +20,16 @@ use std::alloc::Global;
 
 impl Cursor<'_> {
     /// A statement to its `.`.
-    pub fn statement(&mut self, alloc: Global) -> Result<Said, Fault>
+    pub fn statement(&mut self, alloc: Global) -> Result<HeldStatement, Fault>
         ensures { ReadsStatement (rule rules.Statement) self.old result self.new }
     {
-        let said = self.body(alloc)?;
+        let held_statement = self.body(alloc)?;
         let _dot = self.expect(TokenKind::Sign(Sign::Dot))?;
-        Ok(said)
+        Ok(held_statement)
     }
 
     /// What a statement says, by its first word.
-    fn body(&mut self, alloc: Global) -> Result<Said, Fault>
+    fn body(&mut self, alloc: Global) -> Result<HeldStatement, Fault>
         ensures { ReadsStatement body self.old result self.new }
     {
         if self.sees(TokenKind::Word(Word::Ring)) {
@@ -51,7 +51,7 @@ impl Cursor<'_> {
     }
 
     /// `ring R`
-    fn ring(&mut self) -> Result<Said, Fault>
+    fn ring(&mut self) -> Result<HeldStatement, Fault>
         ensures { ReadsStatement (rule rules.Ring) self.old result self.new }
     {
         let _ring = self.expect(TokenKind::Word(Word::Ring))?;
@@ -64,7 +64,7 @@ impl Cursor<'_> {
     }
 
     /// `hom f : R -> S`
-    fn hom(&mut self) -> Result<Said, Fault>
+    fn hom(&mut self) -> Result<HeldStatement, Fault>
         ensures { ReadsStatement (rule rules.Hom) self.old result self.new }
     {
         let _hom = self.expect(TokenKind::Word(Word::Hom))?;
@@ -81,7 +81,7 @@ impl Cursor<'_> {
     }
 
     /// `domain D`, or `field F char 0`
-    fn sort(&mut self) -> Result<Said, Fault>
+    fn sort(&mut self) -> Result<HeldStatement, Fault>
         ensures { ReadsStatement (rule rules.Sort) self.old result self.new }
     {
         let word = self.expect_either(TokenKind::Word(Word::Domain), TokenKind::Word(Word::Field))?;
@@ -105,7 +105,7 @@ impl Cursor<'_> {
     }
 
     /// `var x y : R`
-    fn vars(&mut self, alloc: Global) -> Result<Said, Fault>
+    fn vars(&mut self, alloc: Global) -> Result<HeldStatement, Fault>
         ensures { ReadsStatement (rule rules.Vars) self.old result self.new }
     {
         let _var = self.expect(TokenKind::Word(Word::Var))?;
@@ -133,7 +133,7 @@ impl Cursor<'_> {
     }
 
     /// `hyp H : t = u`, or with `<>`
-    fn hyp(&mut self, alloc: Global) -> Result<Said, Fault>
+    fn hyp(&mut self, alloc: Global) -> Result<HeldStatement, Fault>
         ensures { ReadsStatement (rule rules.Hyp) self.old result self.new }
     {
         let _hyp = self.expect(TokenKind::Word(Word::Hyp))?;
@@ -150,11 +150,11 @@ impl Cursor<'_> {
             name: span_of(name),
             equation,
         };
-        Ok(Said { kind, too_deep })
+        Ok(HeldStatement { kind, too_deep })
     }
 
     /// `goal t = u by method`
-    fn goal(&mut self, alloc: Global) -> Result<Said, Fault>
+    fn goal(&mut self, alloc: Global) -> Result<HeldStatement, Fault>
         ensures { ReadsStatement (rule rules.Goal) self.old result self.new }
     {
         let _goal = self.expect(TokenKind::Word(Word::Goal))?;
@@ -169,7 +169,7 @@ impl Cursor<'_> {
             method,
             method_at,
         };
-        Ok(Said { kind, too_deep })
+        Ok(HeldStatement { kind, too_deep })
     }
 
     /// The method of a goal and its place.
@@ -212,18 +212,18 @@ fn is_unequal(kind: TokenKind) -> bool
 }
 
 /// A statement without terms.
-fn plain(kind: RawKind) -> Said
+fn plain(kind: RawKind) -> HeldStatement
     requires { HasNoTerms kind }
-    ensures { result ≡ said kind }
+    ensures { result ≡ held_statement kind }
 {
-    Said {
+    HeldStatement {
         kind,
         too_deep: None,
     }
 }
 
 /// What is kept of an equation, and its first too deep node.
-fn sides(left: Part, relation: Token, right: Part) -> (RawEquation, Option<u32>)
+fn sides(left: HeldTerm, relation: Token, right: HeldTerm) -> (RawEquation, Option<u32>)
     ensures equation { result.0 ≡ sides left.term relation right.term }
     ensures too_deep { result.1 ≡ option_or left.too_deep right.too_deep }
 {

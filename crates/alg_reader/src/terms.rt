@@ -4,13 +4,13 @@ ghost use Rattle.alg_reader.specs.Forms.{Sum, Product, Unary, Power, Leaf};
 ghost use Rattle.alg_reader.specs.Reading.{ReadsTerm, ReadsInside};
 
 use crate::cursor::{Cursor, Fault};
-use crate::parts::{Part, binary, image, literal, opposites, power_of, variable};
+use crate::parts::{HeldTerm, binary, image, literal, opposites, power_of, variable};
 use alg_tokens::{Sign, TokenKind};
 use std::alloc::Global;
 
 impl Cursor<'_> {
     #[cycle(terms)]
-    pub fn sum(&mut self, alloc: Global) -> Result<Part, Fault>
+    pub fn sum(&mut self, alloc: Global) -> Result<HeldTerm, Fault>
         ensures { ReadsTerm Sum self.old result self.new }
     {
         let mut sum = self.product(alloc)?;
@@ -23,7 +23,7 @@ impl Cursor<'_> {
     }
 
     #[cycle(terms)]
-    fn product(&mut self, alloc: Global) -> Result<Part, Fault>
+    fn product(&mut self, alloc: Global) -> Result<HeldTerm, Fault>
         ensures { ReadsTerm Product self.old result self.new }
     {
         let mut product = self.unary(alloc)?;
@@ -36,7 +36,7 @@ impl Cursor<'_> {
     }
 
     #[cycle(terms)]
-    fn unary(&mut self, alloc: Global) -> Result<Part, Fault>
+    fn unary(&mut self, alloc: Global) -> Result<HeldTerm, Fault>
         ensures { ReadsTerm Unary self.old result self.new }
     {
         let mut heads = Vec::new(alloc);
@@ -49,7 +49,7 @@ impl Cursor<'_> {
     }
 
     #[cycle(terms)]
-    fn power(&mut self, alloc: Global) -> Result<Part, Fault>
+    fn power(&mut self, alloc: Global) -> Result<HeldTerm, Fault>
         ensures { ReadsTerm Power self.old result self.new }
     {
         let base = self.leaf(alloc)?;
@@ -62,7 +62,7 @@ impl Cursor<'_> {
     }
 
     #[cycle(terms)]
-    fn leaf(&mut self, alloc: Global) -> Result<Part, Fault>
+    fn leaf(&mut self, alloc: Global) -> Result<HeldTerm, Fault>
         ensures { ReadsTerm Leaf self.old result self.new }
     {
         if self.sees_number() {
@@ -82,7 +82,7 @@ impl Cursor<'_> {
 
     /// A sum in parentheses.
     #[cycle(terms)]
-    fn inside(&mut self, alloc: Global) -> Result<Part, Fault>
+    fn inside(&mut self, alloc: Global) -> Result<HeldTerm, Fault>
         ensures { ReadsInside self.old result self.new }
     {
         let _paren = self.expect(TokenKind::Sign(Sign::ParenLeft))?;

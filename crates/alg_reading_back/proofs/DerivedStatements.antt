@@ -37,7 +37,8 @@ StatementReads laid = (at : ℕ) → IsStatement Plain (tokens_of at laid.pieces
 
 -- a statement's body and its dot
 pub statement_of : (v : Tree) (dot_at : ℕ) (tokens : List Token) (kind : RawKind) → Fits body v →
-    spelled v ++ (sign_at signs.Dot dot_at ∷ []) ≡ tokens → value.value v ≡ kind_value kind → IsStatement Plain tokens kind
+    spelled v ++ (sign_at signs.Dot dot_at ∷ []) ≡ tokens → value.value v ≡ kind_value kind →
+    IsStatement Plain tokens kind
 unfolding grammar act
 statement_of v at tokens kind fits spells says = (
   node rules.Statement (pair v (token (sign_at signs.Dot at))),

@@ -79,7 +79,8 @@ module _ (g : File) (text : List ℕ) (may_divide : Bool) (e : Equation) (raw : 
       ap (λ o. differ o r.own) (left.own may_divide) ∙ ap (differ (own_sort g e.left)) (right.own may_divide)
       ∙ never_differ (own_sort g e.left) (own_sort g e.right) agree in
       four_empty _ _ _ _ (ap (λ o. l.faults o true) same ∙ left.sorts) (ap (λ o. r.faults o true) same ∙ right.sorts)
-      (no_cause (differ l.own r.own) code.Sort raw.relation apart) (no_cause (is_none final) code.NoSort raw.relation (ap is_none same))
+      (no_cause (differ l.own r.own) code.Sort raw.relation apart)
+      (no_cause (is_none final) code.NoSort raw.relation (ap is_none same))
 
   sides_back : IsEquationBack g text may_divide e raw
   sides_back =

@@ -154,7 +154,8 @@ module _ (file g : File) (text : List ℕ) (distinct : AreDistinct (names_of g))
         names = back.names;
         sorts = two_empty ((fault_if ring code.NotDomain method_at ++ sorted) ++ powers) limits
             (two_empty (fault_if ring code.NotDomain method_at ++ sorted) powers
-            (two_empty (fault_if ring code.NotDomain method_at) sorted (no_cause ring code.NotDomain method_at domain) clear)
+            (two_empty (fault_if ring code.NotDomain method_at) sorted
+            (no_cause ring code.NotDomain method_at domain) clear)
             (option_clear MIN_POWER MAX_POWER power power_at may.power_low may.power_high))
             (option_clear MIN_LIMIT MAX_LIMIT limit limit_at (omega arith) may.limit_high);
       }

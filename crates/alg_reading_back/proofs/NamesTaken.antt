@@ -49,7 +49,8 @@ module _ (g : File) (text : List ℕ) where
       IsNew bytes (names_of g) → IsNew bytes before → new_name g text before name ≡ []
   new_taken before name bytes same free apart =
       ap (λ b. fault_if (is_some (declared_as g b) || list_any (bytes_eq b) before) code.Again name.start) same
-      ∙ ap (λ o. fault_if (is_some o || list_any (bytes_eq bytes) before) code.Again name.start) (declared_none g bytes free)
+      ∙ ap (λ o. fault_if (is_some o || list_any (bytes_eq bytes) before) code.Again name.start)
+      (declared_none g bytes free)
       ∙ ap (λ b. fault_if b code.Again name.start) (not_among bytes before apart)
 
   pub news_taken : (before : List Name) (names : List Span) → AreFresh g before (map (bytes_at text) names) →

@@ -119,7 +119,8 @@ Passes last (Lexeme kind bytes ∷ pieces) = IsEven kind bytes × IsPassed last 
 
 -- where their bytes open few
 pub goes_past : (depth at : ℕ) (last : Option TokenKind) (pieces : List Piece) (rest : List ℕ) → Passes last pieces →
-    most_open depth (flat_map bytes_of pieces ++ rest) ≤ MAX_OPEN → GoesPast unread_today depth last (tokens_of at pieces)
+    most_open depth (flat_map bytes_of pieces ++ rest) ≤ MAX_OPEN →
+    GoesPast unread_today depth last (tokens_of at pieces)
 goes_past depth at last [] rest passes few = tt
 goes_past depth at last (Blank bytes ∷ pieces) rest passes few =
     let later = flat_map bytes_of pieces ++ rest in

@@ -148,10 +148,11 @@ vars_passes file plain first count =
 -- `by` stops nothing
 by_passes : (last : Option TokenKind) (depth : ℕ) → stop_code unread_today depth last (kinds.Word words.By) ≡ None
 by_passes None depth = refl
-by_passes (Some (kinds.Word w)) depth = elim w as (λ w. stop_code unread_today depth (Some (kinds.Word w)) (kinds.Word words.By) ≡ None) [
-  | words.Additive ↦ refl
-  | _ ↦ refl
-]
+by_passes (Some (kinds.Word w)) depth = elim w as
+    (λ w. stop_code unread_today depth (Some (kinds.Word w)) (kinds.Word words.By) ≡ None) [
+      | words.Additive ↦ refl
+      | _ ↦ refl
+    ]
 by_passes (Some kinds.Name) depth = refl
 by_passes (Some (kinds.Number n)) depth = refl
 by_passes (Some (kinds.Sign s)) depth = refl

@@ -94,7 +94,8 @@ module _ (file g : File) (text : List ℕ) (distinct : AreDistinct (names_of g))
       record {
         back = ap (λ k. Hom k (term_of g text (l.raw place))) number ∙ ap (Hom f) part.back;
         clear = subst P (sym number)
-            (ap (λ x. x ++ inner.faults source (to_fields g (f ∷ above))) (no_cause (differ inner.own source) code.Sort at fits)
+            (ap (λ x. x ++ inner.faults source (to_fields g (f ∷ above)))
+            (no_cause (differ inner.own source) code.Sort at fits)
             ∙ part.clear);
       }
 

@@ -72,7 +72,8 @@ stand_uses file sort (used ∷ uses) names all next stops = (
 -- ---- methods
 
 -- the power and the limit
-stand_options : (power limit : ℕ) → pos power ≤ℤ MAX_LITERAL → pos limit ≤ℤ MAX_LITERAL → StandsBeforeStop (option_pieces power limit)
+stand_options : (power limit : ℕ) → pos power ≤ℤ MAX_LITERAL → pos limit ≤ℤ MAX_LITERAL →
+    StandsBeforeStop (option_pieces power limit)
 stand_options power limit power_small limit_small next stops =
     let last = numeral limit ∷ [] in
     let from_limit = space ∷ word words.Limit ∷ space ∷ last in

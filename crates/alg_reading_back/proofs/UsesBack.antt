@@ -172,11 +172,13 @@ module _ (file g : File) (text : List ℕ) (distinct : AreDistinct (names_of g))
       let other : ℕ → Bool = λ hyp. not (sort_along g text raw.path hyp == s) in
       let bad : ℕ → Bool = λ hyp. is_bad_unequal g text raw.path hyp in
       let faults : ℕ → List Refusal =
-      λ hyp. path_sorts g text raw.path hyp ++ fault_if (other hyp) code.Sort first ++ fault_if (bad hyp) code.NotField first in
+      λ hyp. path_sorts g text raw.path hyp ++ fault_if (other hyp) code.Sort first
+      ++ fault_if (bad hyp) code.NotField first in
       let no_other = no_cause (other used.hyp) code.Sort first (never_differ _ s path.along) in
       let no_bad = no_cause (bad used.hyp) code.NotField first
       (unequal_clear used.path used.hyp at (field_there s used closed range is)) in
       ap faults number
       ∙ two_empty (path_sorts g text raw.path used.hyp ++ fault_if (other used.hyp) code.Sort first)
       (fault_if (bad used.hyp) code.NotField first)
-      (two_empty (path_sorts g text raw.path used.hyp) (fault_if (other used.hyp) code.Sort first) path.clear no_other) no_bad
+      (two_empty (path_sorts g text raw.path used.hyp)
+      (fault_if (other used.hyp) code.Sort first) path.clear no_other) no_bad

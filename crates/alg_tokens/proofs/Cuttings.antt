@@ -61,7 +61,8 @@ token_no_blank text token (inr (some, within, (bytes, first))) blank rest begins
 
 -- why a fault stands at its place
 abbrev IsFault : List ℕ → ℕ → Type 0
-IsFault text n = ((n ≡ code_number code.Char) × BeginsNoPiece text) ⊎ ((n ≡ code_number code.Number) × BeginsOverMax text)
+IsFault text n = ((n ≡ code_number code.Char) × BeginsNoPiece text)
+    ⊎ ((n ≡ code_number code.Number) × BeginsOverMax text)
 
 fault_no_blank : (text : List ℕ) (n : ℕ) → IsFault text n → NoBlank text
 fault_no_blank text n (inl (_, (some, none))) bytes rest begins = none (Blank bytes) rest begins

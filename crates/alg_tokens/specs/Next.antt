@@ -45,7 +45,8 @@ abbrev pub IsFirstToken : List ℕ → Result (TokenKind × ℕ) Code → Type 0
 IsFirstToken text (Ok (kind, len)) = IsWithinMax kind
     × (((kind ≡ kinds.End) × (text ≡ []) × (len ≡ 0))
     ⊎ ((0 < len) × (len ≤ length text) × IsFirst (Lexeme kind (take len text)) text (drop len text)))
-IsFirstToken text (Err fault) = ((fault ≡ code.Char) × BeginsNoPiece text) ⊎ ((fault ≡ code.Number) × BeginsOverMax text)
+IsFirstToken text (Err fault) = ((fault ≡ code.Char) × BeginsNoPiece text)
+    ⊎ ((fault ≡ code.Number) × BeginsOverMax text)
 
 -- the first token after the blanks, or the fault there: that no token begins, or a numeral over the greatest literal
 abbrev pub IsNext : List ℕ → ℕ → Result Token Refusal → Type 0

@@ -99,7 +99,8 @@ module _ (file : File) (text : List ℕ) (valid : IsValid file) where
       (record {
         named = named file new
             (((map (λ sort. sort.name) file.sorts ++ map (λ hom. hom.name) file.homs)
-            ++ map (λ var. var.name) file.vars) ++ map (λ hyp. hyp.name) file.hyps) (bytes ∷ []) [] valid (sym (append-nil _))
+            ++ map (λ var. var.name) file.vars) ++ map (λ hyp. hyp.name) file.hyps) (bytes ∷ []) [] valid
+            (sym (append-nil _))
             (simp (map-append, append_assoc)) (All-cons IsName bytes [] well.0.name (All-nil IsName)) (tt, tt)
             (free, tt);
         sorts = All-nil IsSort;

@@ -44,7 +44,8 @@ module _ (file : File) (text : List ℕ) (raw : Raw) where
   sorts = first_of (sort_faults file text raw.kind)
 
   pub first_is_deep : (at : ℕ) → raw.too_deep ≡ Some at → Some (fault_at code.Depth at) ≡ first_fault file text raw
-  first_is_deep at is = ap (λ (d : Option ℕ). option_or (option_map (fault_at code.Depth) d) (option_or names sorts)) (sym is)
+  first_is_deep at is =
+      ap (λ (d : Option ℕ). option_or (option_map (fault_at code.Depth) d) (option_or names sorts)) (sym is)
 
   pub first_is_name : (f : Refusal) → ((at : ℕ) → raw.too_deep ≢ Some at) →
       Some f ≡ first_of (name_faults file text raw.kind) → Some f ≡ first_fault file text raw

@@ -34,4 +34,5 @@ pub mod VarTables
 pub mod OneReading
 pub mod FirstFaults
 pub mod ReadingSteps
+pub mod RoomForStatements
 pub mod TypedTerms

@@ -93,7 +93,8 @@ module _ (file : File) (text : List ℕ) where
       record {
         left = term_kept b e.left _ true well.left in_left clear.left;
         right = term_kept b e.right _ true well.right in_right clear.right;
-        sides = agree file text b e.left.head e.left.node e.right.head e.right.node (no_fault _ code.Sort e.relation differ);
+        sides = agree file text b e.left.head e.left.node e.right.head e.right.node
+            (no_fault _ code.Sort e.relation differ);
         sort = clear.sort;
       }
 

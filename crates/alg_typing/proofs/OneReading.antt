@@ -49,18 +49,22 @@ module _ (once : OneOutcome) (unread : Unread) (text : List ℕ) where
   same_raw at a b one other =
       raw_is_raw a b (once unread Plain text at (Ok a) (Ok b) one other (raw_is_memory a) (raw_is_memory b))
 
-  same_fault : (at : ℕ) (a b : Refusal) → IsRead unread Plain text at (Err (Refused a)) → IsRead unread Plain text at (Err (Refused b)) → a ≡ b
+  same_fault : (at : ℕ) (a b : Refusal) → IsRead unread Plain text at (Err (Refused a)) →
+      IsRead unread Plain text at (Err (Refused b)) → a ≡ b
   same_fault at a b one other = fault_is_fault a b
       (once unread Plain text at (Err (Refused a)) (Err (Refused b)) one other (fault_is_memory a) (fault_is_memory b))
 
-  not_both : (at : ℕ) (a : Raw) (b : Refusal) → IsRead unread Plain text at (Ok a) → IsRead unread Plain text at (Err (Refused b)) → ⊥
+  not_both : (at : ℕ) (a : Raw) (b : Refusal) → IsRead unread Plain text at (Ok a) →
+      IsRead unread Plain text at (Err (Refused b)) → ⊥
   not_both at a b one other = raw_is_no_fault a b
       (once unread Plain text at (Ok a) (Err (Refused b)) one other (raw_is_memory a) (fault_is_memory b))
 
-  not_end : (at : ℕ) (a b : Raw) → IsRead unread Plain text at (Ok a) → IsRead unread Plain text at (Ok b) → a.kind ≡ End → b.kind ≢ End → ⊥
+  not_end : (at : ℕ) (a b : Raw) → IsRead unread Plain text at (Ok a) → IsRead unread Plain text at (Ok b) → a.kind
+      ≡ End → b.kind ≢ End → ⊥
   not_end at a b one other ends goes = goes (sym (ap (λ (r : Raw). r.kind) (same_raw at a b one other)) ∙ ends)
 
-  no_fault_twice : (at : ℕ) (file : File) (a b : Raw) (f : Refusal) → IsRead unread Plain text at (Ok a) → IsRead unread Plain text at (Ok b) →
+  no_fault_twice : (at : ℕ) (file : File) (a b : Raw) (f : Refusal) → IsRead unread Plain text at (Ok a) →
+      IsRead unread Plain text at (Ok b) →
       first_fault file text a ≡ Some f → first_fault file text b ≡ None → ⊥
   no_fault_twice at file a b f one other is none =
       let same = ap (first_fault file text) (same_raw at a b one other) in

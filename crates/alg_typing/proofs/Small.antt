@@ -101,5 +101,8 @@ small_options file text final at methods.Ring h = tt
 small_options file text final at methods.Field h = tt
 small_options file text final at (methods.Nsatz uses power limit) h =
     let two = parts_empty _ (option_range MIN_LIMIT MAX_LIMIT limit) h in
-    let one = parts_empty _ (option_range MIN_POWER MAX_POWER power) two.0 in
-    (small_option MIN_POWER MAX_POWER power (omega arith) one.1, small_option MIN_LIMIT MAX_LIMIT limit (omega arith) two.1)
+    let one = parts_empty _ (option_range MIN_POWER MAX_POWER power) two.0 in (
+      small_option MIN_POWER MAX_POWER power (omega arith) one.1,
+      small_option MIN_LIMIT MAX_LIMIT limit
+          (omega arith) two.1,
+    )

@@ -46,7 +46,8 @@ module _ (file : File) (text : List ℕ) where
       ∙ (λ j. first_of (fault_if (differ (is_left.own j) (is_right.own j)) code.Sort e.relation))) i)
       ((is_missing ∙ ap (λ s. first_of (fault_if (is_none s) code.NoSort e.relation)) final) i))))
       ∙ sym (first_of-four (l.faults (option_or l.own r.own) true) (r.faults (option_or l.own r.own) true)
-      (fault_if (differ l.own r.own) code.Sort e.relation) (fault_if (is_none (option_or l.own r.own)) code.NoSort e.relation))
+      (fault_if (differ l.own r.own) code.Sort e.relation)
+      (fault_if (is_none (option_or l.own r.own)) code.NoSort e.relation))
 
   -- a path by its next morphism
   pub path_sorts-turn : (path : List Span) (hyp i : ℕ) (d : Span) (first next fault : Option Refusal) (differs : Bool) →

@@ -12,7 +12,7 @@ use Rattle.alg_reader.specs.declared.raw.RawNode.TheOpen.{RawNode-F}
 use Rattle.alg_reader.specs.declared.raw.Span.{Span}
 use Rattle.alg_reader.specs.RawTerms.{fold_under}
 use Rattle.alg_typing.specs.declared.sorts.Checked.{Checked}
-use Rattle.alg_typing.specs.declared.sorts.Standing.{Standing}
+use Rattle.alg_typing.specs.declared.sorts.Context.{Context}
 use Rattle.alg_typing.specs.Checks.{IsCheckOf}
 use Rattle.alg_typing.specs.Faults.{earlier_of, fault_if, first_of}
 use Rattle.alg_typing.specs.Resolved.{number_at}
@@ -76,7 +76,7 @@ module _ (file : File) (text : List ℕ) where
   sorted-combined may t l r (inr (inr e)) =
       ap (fold_under (node_sorted file text may) t.head) e ∙ fold_under-Mul (node_sorted file text may) t.head l r
 
-  module _ (at : Standing) (t : RawTerm) (c : Checked) where
+  module _ (at : Context) (t : RawTerm) (c : Checked) where
     -- what a term is checked by where its node comes to this
     by_sorted : (s : Sorted) → sorted file text at.may_divide t ≡ s → c.own ≡ s.own →
         c.fault ≡ first_of (s.faults at.sort at.in_fields) → IsCheckOf file text at t c
@@ -101,7 +101,8 @@ module _ (file : File) (text : List ℕ) where
     -- a quotient is checked by its own fault and as any operator
     pub divided : (l r p q : RawTerm) (a b both : Checked) (own_fault : Option Refusal) → t.node ≡ Div l r → p ≡ l →
         q ≡ r → IsCheckOf file text at p a → IsCheckOf file text at q b → both.own ≡ option_or a.own b.own →
-        both.fault ≡ earlier_of (first_of (fault_if (differ a.own b.own) code.Sort t.head)) (earlier_of a.fault b.fault) →
+        both.fault ≡ earlier_of (first_of (fault_if (differ a.own b.own) code.Sort t.head))
+        (earlier_of a.fault b.fault) →
         own_fault ≡ first_of (quotient file text at.may_divide t.head at.sort at.in_fields) → c.own ≡ both.own →
         c.fault ≡ earlier_of own_fault both.fault → IsCheckOf file text at t c
     divided l r p q a b both own_fault is is_l is_r left right own fault is_own is_c faults =
@@ -118,7 +119,7 @@ module _ (file : File) (text : List ℕ) where
         ∙ sym (first_of-append (quotient file text may t.head at.sort at.in_fields) _))
 
     -- an image is checked by its argument
-    pub imaged : (name : Span) (l p : RawTerm) (hom : ℕ) (below : Standing) (a : Checked) → t.node ≡ Hom name l →
+    pub imaged : (name : Span) (l p : RawTerm) (hom : ℕ) (below : Context) (a : Checked) → t.node ≡ Hom name l →
         p ≡ l →
         hom ≡ number_at file text name →
         below ≡ record at {
@@ -131,8 +132,9 @@ module _ (file : File) (text : List ℕ) where
     imaged name l p hom below a is is_l is_hom is_below part own fault =
         let may = at.may_divide in
         let inner = sorted file text may p in
-        let here = subst (λ (b : Standing). IsCheckOf file text b p a) is_below part in
-        let at_hom = λ (h : ℕ). earlier_of (first_of (fault_if (differ inner.own (Some (source_of file h))) code.Sort t.head))
+        let here = subst (λ (b : Context). IsCheckOf file text b p a) is_below part in
+        let at_hom = λ (h : ℕ). earlier_of (first_of
+        (fault_if (differ inner.own (Some (source_of file h))) code.Sort t.head))
         (first_of (inner.faults (Some (source_of file h))
         (at.in_fields && is_field (kind_of file (target_of file h))))) in
         by_sorted (node_sorted file text may t.head (RawNode-F.Hom name inner))
@@ -144,5 +146,6 @@ module _ (file : File) (text : List ℕ) where
         ∙ (λ i. earlier_of (first_of (fault_if (differ (here.own i) (Some (source_of file hom))) code.Sort t.head))
         (here.fault i))
         ∙ ap at_hom is_hom
-        ∙ sym (first_of-append (fault_if (differ inner.own (Some (source_of file (number_at file text name)))) code.Sort t.head)
+        ∙ sym (first_of-append (fault_if (differ inner.own
+        (Some (source_of file (number_at file text name)))) code.Sort t.head)
         _))

@@ -24,7 +24,8 @@ use Rattle.alg_typing.proofs.Resolving.{agree_if, resolved, sorted_under, own_re
 -- an exponent without fault is at most the greatest
 pub exponent_in_range : (n : RawNumber) → exponent n ≡ [] → unsigned_abs n.value ≤ MAX_EXPONENT
 exponent_in_range n h =
-    let low : nat_lt MAX_EXPONENT (unsigned_abs n.value) ≡ false = no_fault _ code.Exponent n.at h in grind (arith, nat_tests)
+    let low : nat_lt MAX_EXPONENT (unsigned_abs n.value) ≡ false = no_fault _ code.Exponent n.at h in
+    grind (arith, nat_tests)
 
 module _ (file : File) (text : List ℕ) where
   -- literals in range stay so

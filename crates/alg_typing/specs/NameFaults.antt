@@ -26,6 +26,7 @@ module _ (file : File) (text : List ℕ) where
   misuse is_wanted at None = fault_at code.Unknown at ∷ []
   misuse is_wanted at (Some declaration) = fault_if (not (is_wanted declaration)) code.WrongUse at
 
+  -- the fault of a name that is used where something is wanted
   abbrev pub used_name : (Declaration → Bool) → Span → List Refusal
   used_name is_wanted name = misuse is_wanted name.start (declared_as file (bytes_at text name))
 
@@ -46,16 +47,19 @@ module _ (file : File) (text : List ℕ) where
   node_name (RawNode-F.Hom name part) = used_name is_hom name
   node_name _ = []
 
-  -- the faults of the names of a term, of an equation and of a use
+  -- the faults of the names of a term
   abbrev pub term_names : RawTerm → List Refusal
   term_names = fold_raw (λ head node. node_name node ++ of_parts node)
 
+  -- of an equation
   abbrev pub equation_names : RawEquation → List Refusal
   equation_names e = term_names e.left ++ term_names e.right
 
+  -- of a use
   abbrev pub use_names : RawUse → List Refusal
   use_names used = flat_map (used_name is_hom) used.path ++ used_name is_hyp used.hyp
 
+  -- of a method
   abbrev pub method_names : RawMethod → List Refusal
   method_names methods.Ring = []
   method_names methods.Field = []

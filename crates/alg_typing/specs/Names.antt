@@ -15,19 +15,22 @@ declared_as file name =
     (option_or (among Var (map (λ var. var.name) file.vars))
     (among Hyp (map (λ hyp. hyp.name) file.hyps))))
 
--- what a place may want a name to be
+-- what a place may want a name to be: a sort
 abbrev pub is_sort : Declaration → Bool
 is_sort (Sort s) = true
 is_sort _ = false
 
+-- a morphism
 abbrev pub is_hom : Declaration → Bool
 is_hom (Hom f) = true
 is_hom _ = false
 
+-- a variable
 abbrev pub is_var : Declaration → Bool
 is_var (Var k) = true
 is_var _ = false
 
+-- a hypothesis
 abbrev pub is_hyp : Declaration → Bool
 is_hyp (Hyp h) = true
 is_hyp _ = false

@@ -36,6 +36,7 @@ module _ (file : File) (text : List ℕ) where
   abbrev pub number_at : Span → ℕ
   number_at name = option_map_or number_of (declared_as file (bytes_at text name)) 0
 
+  -- one node with the numbers of what it names
   abbrev pub node_term : ℕ → Node Term → Term
   node_term head (RawNode-F.Var name) = term.Var (number_at name)
   node_term head (RawNode-F.Int n) = term.Int n
@@ -47,19 +48,22 @@ module _ (file : File) (text : List ℕ) where
   node_term head (RawNode-F.Pow part exponent) = term.Pow part (unsigned_abs exponent.value)
   node_term head (RawNode-F.Hom name part) = term.Hom (number_at name) part
 
-  -- a term, an equation, a use and a method with the numbers of what they name
+  -- a term with the numbers of what it names
   abbrev pub term_of : RawTerm → Term
   term_of = fold_raw node_term
 
+  -- an equation
   abbrev pub equation_of : RawEquation → Equation
   equation_of e =
       let left = term_of e.left in
       let right = term_of e.right in
       record { sort = unwrap_or (equation_sort file left right) 0; left = left; right = right }
 
+  -- a use
   abbrev pub use_of : RawUse → Use
   use_of used = record { path = map number_at used.path; hyp = number_at used.hyp }
 
+  -- a method
   abbrev pub method_of : RawMethod → Method
   method_of methods.Ring = ByRing
   method_of methods.Field = ByField

@@ -26,8 +26,8 @@ start_of used = elim used.path [ [] ↦ used.hyp.start | name ∷ names ↦ name
 -- an option's numeral is not from the least to the greatest
 abbrev pub option_range : ℕ → ℕ → Option RawNumber → List Refusal
 option_range low high number =
-    option_map_or (λ n. let value = unsigned_abs n.value in fault_if (nat_lt value low || nat_lt high value) code.Option n.at)
-    number []
+    let outside : ℕ → Bool = λ value. nat_lt value low || nat_lt high value in
+    option_map_or (λ n. fault_if (outside (unsigned_abs n.value)) code.Option n.at) number []
 
 module _ (file : File) (text : List ℕ) where
   -- the sort of an equation, where a side has an own sort
@@ -76,7 +76,8 @@ module _ (file : File) (text : List ℕ) where
   method_sorts final method_at methods.Field = fault_if (is_no_field file text final) code.NotField method_at
   method_sorts final method_at (methods.Nsatz uses power limit) =
       fault_if (option_map_or (λ s. is_ring (kind_of file s)) final false) code.NotDomain method_at
-      ++ flat_map (use_sorts final) uses ++ option_range MIN_POWER MAX_POWER power ++ option_range MIN_LIMIT MAX_LIMIT limit
+      ++ flat_map (use_sorts final) uses ++ option_range MIN_POWER MAX_POWER power
+      ++ option_range MIN_LIMIT MAX_LIMIT limit
 
   -- whether a goal by this method may have quotients
   abbrev pub may_divide_by : RawMethod → Bool

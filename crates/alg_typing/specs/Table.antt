@@ -8,6 +8,7 @@ use Rattle.alg_reader.specs.WellRead.{bytes_at}
 use Rattle.alg_typing.specs.declared.declaration.Declaration.TheVariants.{Var}
 use Rattle.alg_typing.specs.Names.{declared_as}
 
+-- names with what they are declared as, in the order of addition
 abbrev pub Table : Type 0
 Table = List (List ℕ × Declaration)
 

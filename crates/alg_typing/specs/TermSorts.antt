@@ -16,10 +16,12 @@ use Rattle.alg_reader.specs.RawTerms.{Node, fold_raw}
 use Rattle.alg_typing.specs.Faults.{fault_if}
 use Rattle.alg_typing.specs.Resolved.{number_at}
 
+-- the kind has the laws of rings alone
 abbrev pub is_ring : Kind → Bool
 is_ring Ring = true
 is_ring _ = false
 
+-- the kind has the laws of fields
 abbrev pub is_field : Kind → Bool
 is_field Field = true
 is_field _ = false
@@ -44,7 +46,8 @@ abbrev pub operator : ℕ → Sorted → Sorted → Sorted
 operator head left right = record {
   own = option_or left.own right.own;
   faults = λ final in_fields.
-      fault_if (differ left.own right.own) code.Sort head ++ left.faults final in_fields ++ right.faults final in_fields;
+      fault_if (differ left.own right.own) code.Sort head ++ left.faults final in_fields
+      ++ right.faults final in_fields;
 }
 
 -- the numeral of an exponent is over the greatest
@@ -70,6 +73,7 @@ module _ (file : File) (text : List ℕ) where
         ++ part.faults (Some (source_of file f)) (in_fields && is_field (kind_of file (target_of file f)));
   }
 
+  -- one node, by its parts
   abbrev pub node_sorted : Bool → ℕ → Node Sorted → Sorted
   node_sorted may_divide head (RawNode-F.Var name) = leaf (Some (sort_of_var file (number_at file text name)))
   node_sorted may_divide head (RawNode-F.Int n) = leaf None

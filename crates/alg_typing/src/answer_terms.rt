@@ -12,7 +12,7 @@ ghost use Rattle.alg_typing.specs.TermsOf.{IsTermOf};
 
 use crate::Declared;
 use crate::scope::Scope;
-use crate::sorts::Standing;
+use crate::sorts::Context;
 use alg_reader::{FileEnd, RawTerm};
 use alg_terms::{Goal, Method, Term};
 use alg_tokens::Refusal;
@@ -35,7 +35,7 @@ impl Scope<'_> {
         requires { IsTermOf self.now.text.now raw.now }
         ensures { result ≡ first_of (answer_sorts self.now.declared.now self.now.text.now goal.now raw.now) }
     {
-        let at = Standing {
+        let at = Context {
             sort: Some(self.own_sort(raw).unwrap_or(goal.equation.sort)),
             in_fields: true,
             may_divide: may_divide(&goal.method),

@@ -1,3 +1,5 @@
+//! What names are declared as, and what places want them to be.
+
 /// What a name is declared as, by its number in the file's list of these.
 #[derive(Clone, Copy, PartialEq, Eq, Debug)]
 pub enum Declaration {

@@ -9,8 +9,8 @@ mod answer_terms;
 #[cfg(test)]
 mod answer_tests;
 mod declaration;
+mod declared;
 mod faults;
-mod known;
 pub mod laws;
 mod lists;
 mod members;
@@ -26,5 +26,5 @@ mod tests;
 
 pub use alg_reader::FileEnd;
 pub use declaration::Declaration;
-pub use known::Declared;
+pub use declared::Declared;
 pub use reading::read_file;

@@ -35,7 +35,8 @@ pub fn read_file(alloc: Global, bytes: &[u8]) -> Result<File, FileEnd>
 #[tactic(none)]
 fn read_text(alloc: Global, text: &str) -> Result<File, FileEnd>
     requires { length text.now ≤ 16777216 }
-    ensures ok { IfOk result (λ file. ReadsFile (unread_at Place.Plain) text.now 0 no_statements (Ok file) × IsValid file) }
+    ensures ok { IfOk result (λ file. ReadsFile (unread_at Place.Plain) text.now 0 no_statements (Ok file)
+        × IsValid file) }
     ensures refused { IfErr result
         (λ end. RefusesWith end (λ fault. ReadsFile (unread_at Place.Plain) text.now 0 no_statements (Err fault))) }
     ensures by_ring { IfOk result (λ file. All IsByRing file.goals) }

@@ -8,7 +8,7 @@ ghost use Rattle.alg_typing.specs.SortFaults.{sort_of_sides, equation_sorts, sor
 
 use crate::faults::{earlier, fault_where};
 use crate::scope::Scope;
-use crate::sorts::{Standing, differ, is_field};
+use crate::sorts::{Context, differ, is_field};
 use alg_reader::{RawEquation, RawKind, RawMethod, RawNumber, RawUse, Span};
 use alg_terms::{GREATEST_LIMIT, GREATEST_POWER, Kind, LEAST_LIMIT, LEAST_POWER};
 use alg_tokens::{Code, Refusal};
@@ -59,13 +59,18 @@ impl Scope<'_> {
         self.own_sort(&e.left).or(self.own_sort(&e.right))
     }
 
-    /// The first fault of the sorts of an equation.
-    fn equation_fault(&self, e: &RawEquation, may_divide: bool) -> Option<Refusal>
-        requires { IsWellEquation self.now.text.now e.now }
+    /// The first fault of the sorts of an equation, which has this sort.
+    fn equation_fault(
+        &self,
+        e: &RawEquation,
+        sort: Option<u32>,
+        may_divide: bool,
+    ) -> Option<Refusal>
+        requires well { IsWellEquation self.now.text.now e.now }
+        requires sort { sort ≡ sort_of_sides self.now.declared.now self.now.text.now e.now }
         ensures { result ≡ first_of (equation_sorts self.now.declared.now self.now.text.now may_divide e.now) }
     {
-        let sort = self.sort_of_sides(e);
-        let at = Standing {
+        let at = Context {
             sort,
             in_fields: true,
             may_divide,
@@ -170,15 +175,18 @@ impl Scope<'_> {
             RawKind::End | RawKind::Sort { .. } | RawKind::Hom { .. } | RawKind::Vars { .. } => {
                 None
             }
-            RawKind::Hyp { equation, .. } => self.equation_fault(equation, false),
+            RawKind::Hyp { equation, .. } => {
+                self.equation_fault(equation, self.sort_of_sides(equation), false)
+            }
             RawKind::Goal {
                 equation,
                 method,
                 method_at,
-            } => earlier(
-                self.equation_fault(equation, may_divide_by(method)),
-                self.method_fault(self.sort_of_sides(equation), *method_at, method),
-            ),
+            } => {
+                let sort = self.sort_of_sides(equation);
+                let sides = self.equation_fault(equation, sort, may_divide_by(method));
+                earlier(sides, self.method_fault(sort, *method_at, method))
+            }
         }
     }
 }

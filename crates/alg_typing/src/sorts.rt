@@ -18,7 +18,7 @@ use alg_tokens::{Code, Refusal};
 /// Where a term stands: its final sort, where it has one, whether all morphisms over it go to
 /// fields, and whether there may be quotients at all.
 #[derive(Clone, Copy, PartialEq, Eq, Debug)]
-pub(crate) struct Standing {
+pub(crate) struct Context {
     pub(crate) sort: Option<u32>,
     pub(crate) in_fields: bool,
     pub(crate) may_divide: bool,
@@ -122,7 +122,7 @@ impl Scope<'_> {
     /// A term's own sort, and the first fault of the sorts, exponents and quotients in it where it
     /// stands so. Linear in the term.
     #[tactic(auto, using(crate::proofs::RawBuilt::raw_built, crate::proofs::Firsts::firsts))]
-    pub(crate) fn check(&self, term: &RawTerm, at: Standing) -> Checked
+    pub(crate) fn check(&self, term: &RawTerm, at: Context) -> Checked
         requires { IsTermOf self.now.text.now term.now }
         ensures { IsCheckOf self.now.declared.now self.now.text.now at term.now result }
     {
@@ -156,22 +156,23 @@ impl Scope<'_> {
     }
 
     /// The fault of a quotient that stands so.
-    fn quotient_fault(&self, head: u32, at: Standing) -> Option<Refusal>
-        ensures { result ≡ first_of (quotient self.now.declared.now self.now.text.now at.may_divide head at.sort at.in_fields) }
+    fn quotient_fault(&self, head: u32, at: Context) -> Option<Refusal>
+        ensures { result ≡ first_of
+            (quotient self.now.declared.now self.now.text.now at.may_divide head at.sort at.in_fields) }
     {
         let refused = !at.may_divide || self.is_no_field(at.sort) || !at.in_fields;
         fault_where(refused, Code::Division, head)
     }
 
     /// Where the argument of a morphism stands.
-    fn below(&self, at: Standing, hom: u32) -> Standing
+    fn below(&self, at: Context, hom: u32) -> Context
         ensures { result ≡ record at {
           sort = Some (source_of self.now.declared.now hom);
           in_fields = at.in_fields && is_field (kind_of self.now.declared.now (target_of self.now.declared.now hom));
         } }
     {
         let to_field = is_field(self.declared.kind_of(self.declared.target_of(hom)));
-        Standing {
+        Context {
             sort: Some(self.declared.source_of(hom)),
             in_fields: at.in_fields && to_field,
             may_divide: at.may_divide,
@@ -183,7 +184,8 @@ impl Scope<'_> {
     fn image(&self, head: u32, hom: u32, part: Checked) -> Checked
         ensures own { result.own ≡ Some (target_of self.now.declared.now hom) }
         ensures fault { result.fault ≡ earlier_of
-            (first_of (fault_if (differ part.own (Some (source_of self.now.declared.now hom))) code.Sort head)) part.fault }
+            (first_of (fault_if (differ part.own (Some (source_of self.now.declared.now hom))) code.Sort head))
+            part.fault }
     {
         let differs = differ(part.own, Some(self.declared.source_of(hom)));
         Checked {
@@ -216,7 +218,8 @@ fn behind(fault: Option<Refusal>, checked: Checked) -> Checked
 fn operator(head: u32, left: Checked, right: Checked) -> Checked
     ensures own { result.own ≡ option_or left.own right.own }
     ensures fault { result.fault
-        ≡ earlier_of (first_of (fault_if (differ left.own right.own) code.Sort head)) (earlier_of left.fault right.fault) }
+        ≡ earlier_of (first_of (fault_if (differ left.own right.own) code.Sort head))
+        (earlier_of left.fault right.fault) }
 {
     let parts = earlier(left.fault, right.fault);
     Checked {

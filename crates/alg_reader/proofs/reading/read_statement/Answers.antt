@@ -6,7 +6,7 @@ use Rattle.alg_tokens.specs.Codes.{code_number}
 use Rattle.alg_reader.specs.Tokens.{unread_at}
 use Rattle.alg_reader.specs.Forms.{Statement, rule}
 use Rattle.alg_reader.specs.Meaning.{kind_value}
-use Rattle.alg_reader.specs.Reading.{Takes, Stops, Fails}
+use Rattle.alg_reader.specs.Reading.{Takes, IsStuckAt, Fails}
 use Rattle.alg_reader.specs.declared.cursor.Fault.TheVariants.{Unexpected}
 use Rattle.alg_tokens.specs.declared.token.TokenKind.TheVariants as kinds
 use Rattle.alg_reader.proofs.Chains.{empty_below_one}
@@ -26,7 +26,8 @@ returns-in-Ok-clause-read c =
     ∙ ap (λ us. us ++ e ∷ []) c.deref-2.ensures.value in
     let (kind, keeps, p) = c.in-Ok.ensures in
     let P : List Token → Type 0 = λ us. Takes (rule Statement) us c.statement.new.self (kind_value kind) in
-    read_ok (unread_at c.args.place) c.args.place c.args.text.now c.args.at c.ends_of-start.result.0 c.ends_of-start.result.1 tokens c.statement.new.self
+    read_ok (unread_at c.args.place) c.args.place c.args.text.now c.args.at c.ends_of-start.result.0
+    c.ends_of-start.result.1 tokens c.statement.new.self
     fault e _ kind keeps refl c.in_ok-cut.ensures (subst P whole p)
     (λ u us e. c.ends_of-start.ensures.start u us (c.deref.ensures.value ∙ e))
     (λ us u e. c.ends_of-start.ensures.stop us u (c.deref.ensures.value ∙ e))
@@ -51,7 +52,7 @@ returns-clause-read c =
     let fails : Fails (rule Statement) c.new-cursor.result (Unexpected t) = subst (Fails
     (rule Statement) c.new-cursor.result) c.in-Err-Unexpected.field-0-is c.in-Err-Unexpected.ensures in
     let (rest, stops) = fails in
-    let P : List Token → Type 0 = λ us. Stops (rule Statement) us (t ∷ rest) in
+    let P : List Token → Type 0 = λ us. IsStuckAt (rule Statement) us (t ∷ rest) in
     let some : tokens ≡ [] → fault.code ≡ code_number code.End → ⊥ = λ nothing five.
     let empty = ap length (c.deref.ensures.value ∙ nothing) in
     elim c.else-is_empty.branch [
@@ -59,12 +60,14 @@ returns-clause-read c =
       | else-is_empty-via-else-is_empty w ↦ let full = w.if-is_empty.false in
           grind (arith, nat_tests, c.is_empty.ensures, c.deref.ensures.len)
     ] in
-    rw c.refusal.ensures (read_refused (unread_at c.args.place) c.args.place c.args.text.now c.args.at tokens rest e t fault refl c.in_ok-cut.ensures
+    rw c.refusal.ensures (read_refused (unread_at c.args.place) c.args.place c.args.text.now c.args.at
+    tokens rest e t fault refl c.in_ok-cut.ensures
     some (subst P whole stops))
 
 -- there is no memory for the tokens, or for what they say
 pub returns-in_err-cut-clause-read : goal.returns-in_err-cut-clause-read
-returns-in_err-cut-clause-read c = passed_no_memory (unread_at c.args.place) c.args.place c.args.text.now c.args.at c.from_residual.result
+returns-in_err-cut-clause-read c = passed_no_memory
+    (unread_at c.args.place) c.args.place c.args.text.now c.args.at c.from_residual.result
     c.from_residual.ensures.1
 
 pub returns-in-Err-NoMemory-clause-read : goal.returns-in-Err-NoMemory-clause-read
@@ -75,5 +78,6 @@ pub returns-then-fault-number-clause-read : goal.returns-then-fault-number-claus
 returns-then-fault-number-clause-read c =
     let tokens = c.in_ok-cut.cut.tokens.items in
     let few : length tokens < 1 = let empty = c.if-is_empty.ensures in grind (arith, nat_tests) in
-    read_end (unread_at c.args.place) c.args.place c.args.text.now c.args.at tokens c.in_ok-cut.cut.fault (empty_below_one tokens few) c.in_ok-cut.ensures
+    read_end (unread_at c.args.place) c.args.place c.args.text.now c.args.at tokens c.in_ok-cut.cut.fault
+    (empty_below_one tokens few) c.in_ok-cut.ensures
     (c.if-fault-number.true ∙ c.number.ensures)

@@ -17,7 +17,8 @@ tokens-preserved c =
     ∙ sym c.in_default.ensures in
     let items : c.push.new.self.items ≡ here ++ t ∷ [] = c.in_ok-push.ensures.items in
     record {
-      reaches = rw items (reaches_more (unread_at c.args.place) c.args.text.now c.args.at c.tokens.stop here t c.tokens.invariant.reaches
+      reaches = rw items (reaches_more (unread_at c.args.place) c.args.text.now c.args.at c.tokens.stop here t
+          c.tokens.invariant.reaches
           c.in-Ok.ensures.next lexeme other free);
       opened = c.open_with-depth.ensures ∙ ap (λ d. open_with d t.kind) c.tokens.invariant.opened
           ∙ sym (open_more 0 here t) ∙ ap (open_after 0) (sym items);

@@ -6,7 +6,8 @@ use Rattle.alg_reader.specs.Tokens.{unread_today}
 use Rattle.alg_typing.specs.Ends.{IsByRing}
 use Rattle.alg_typing.specs.Reading.{ReadsFile, no_statements}
 use Rattle.alg_typing.proofs.FirstFaults.{error_tells_nothing}
-use Rattle.alg_typing.proofs.ReadingSteps.{HasAtMost, none_at_first, has_room, still_few, goes_on, smaller, still_by_ring, decides_still, ends_here, told_reading, told_fault, passed_on}
+use Rattle.alg_typing.proofs.ReadingSteps.{smaller, still_by_ring, decides_still, ends_here, told_reading, told_fault, passed_on}
+use Rattle.alg_typing.proofs.RoomForStatements.{HasAtMost, none_at_first, has_room, still_few, goes_on}
 use Rattle.alg_typing.proofs.reading.read_declared.Goals as goal
 
 pub statements-init : goal.statements-init

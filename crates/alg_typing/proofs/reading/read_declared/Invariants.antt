@@ -5,7 +5,7 @@ use Rattle.alg_tokens.specs.declared.token.Refusal.{Refusal}
 use Rattle.alg_reader.specs.Tokens.{unread_today}
 use Rattle.alg_typing.specs.Ends.{IsByRing}
 use Rattle.alg_typing.specs.Reading.{ReadsFile, no_statements}
-use Rattle.alg_typing.proofs.ReadingSteps.{HasAtMost}
+use Rattle.alg_typing.proofs.RoomForStatements.{HasAtMost}
 use Rattle.alg_typing.proofs.reading.read_declared.Given as goal
 
 -- what the rest of the text is read to be decides what all of it is; each member took a byte at least

@@ -3,7 +3,7 @@ use Rattle.std.proofs.lemmas.Grind.{common_steps}
 use Rattle.alg_tokens.specs.declared.token.Token.{Token}
 use Rattle.alg_reader.specs.Forms.{a}
 use Rattle.alg_reader.specs.TermMeaning.{one}
-use Rattle.alg_reader.specs.Reading.{Takes, Stops}
+use Rattle.alg_reader.specs.Reading.{Takes, IsStuckAt}
 use Rattle.alg_reader.proofs.ReadSequences.{takes_token, stops_token}
 use Rattle.alg_reader.proofs.cursor.Cursor.expect.Goals as goal
 
@@ -11,7 +11,7 @@ pub returns-then-not-same_kind : goal.returns-then-not-same_kind
 returns-then-not-same_kind c =
     let t = c.peek-token.result in
     let rest = c.peek-token.ensures.0 in
-    let P : List Token → Type 0 = λ ts. Stops (a c.args.kind) ts (t ∷ rest) in (
+    let P : List Token → Type 0 = λ ts. IsStuckAt (a c.args.kind) ts (t ∷ rest) in (
       rest,
       subst P (sym c.peek-token.ensures.1) (stops_token c.args.kind t rest (λ h. grind (
         arith,

@@ -14,7 +14,7 @@ pub returns : goal.returns
 returns c =
     c.earlier-3.ensures ∙ ap (earlier_of _) (c.earlier-2.ensures ∙ ap (earlier_of _) c.earlier.ensures)
     ∙ equation_checked c.args.self.now.declared.now c.args.self.now.text.now c.args.may_divide c.args.e.now
-    c.sort_of_sides-sort.result c.check-left.result c.check-right.result _ _ c.sort_of_sides-sort.ensures
+    c.args.sort c.check-left.result c.check-right.result _ _ c.requires.sort
     c.check-left.ensures c.check-right.ensures
     (c.fault_where-differs.ensures ∙ ap (λ b. first_of (fault_if b code.Sort c.args.e.now.relation)) c.differ.ensures)
     (c.fault_where-missing.ensures

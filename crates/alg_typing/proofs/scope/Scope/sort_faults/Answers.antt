@@ -11,11 +11,11 @@ returns-in-Goal c =
     let e = c.in-Goal.equation in
     let method = c.in-Goal.method in
     let sides =
-    c.equation_fault-in-Goal.ensures
+    c.equation_fault-sides.ensures
     ∙ ap (λ may. first_of (equation_sorts file text may e)) (c.may_divide_by.ensures file text) in
     let by =
     c.method_fault.ensures
-    ∙ ap (λ s. first_of (method_sorts file text s c.in-Goal.method_at method)) c.sort_of_sides.ensures in
+    ∙ ap (λ s. first_of (method_sorts file text s c.in-Goal.method_at method)) c.sort_of_sides-sort.ensures in
     c.earlier.ensures ∙ (λ i. earlier_of (sides i) (by i))
     ∙ sym (first_of-append (equation_sorts file text (may_divide_by file text method) e)
     (method_sorts file text (sort_of_sides file text e) c.in-Goal.method_at method))

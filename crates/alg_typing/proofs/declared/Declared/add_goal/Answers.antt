@@ -6,7 +6,7 @@ use Rattle.alg_terms.specs.declared.goals.Goal.{Goal}
 use Rattle.alg_terms.specs.Valid.{IsValid}
 use Rattle.alg_typing.specs.Additions.{with_goal}
 use Rattle.alg_typing.specs.Table.{Table, IsTableOf}
-use Rattle.alg_typing.proofs.known.Declared.add_goal.Goals as goal
+use Rattle.alg_typing.proofs.declared.Declared.add_goal.Goals as goal
 
 added_or_not : {A E : Type 0} (file : File) (table : Table) (g : Goal) (members list : List Goal) (n : ℕ)
     (order : List Statement) (r : Result A E) → members ≡ g ∷ [] → n ≡ length file.goals →

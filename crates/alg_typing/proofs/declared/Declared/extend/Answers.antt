@@ -11,7 +11,7 @@ use Rattle.alg_typing.proofs.NumbersInRange.{parts_empty}
 use Rattle.alg_typing.proofs.Extended.{extended_is_valid}
 use Rattle.alg_typing.proofs.Faultless.{no_name_faults, no_sort_faults}
 use Rattle.alg_typing.proofs.Small.{small_options, small_sides}
-use Rattle.alg_typing.proofs.known.Declared.extend.Goals as goal
+use Rattle.alg_typing.proofs.declared.Declared.extend.Goals as goal
 
 pub add_sort-requires-clause-valid : goal.add_sort-requires-clause-valid
 add_sort-requires-clause-valid c =
@@ -45,8 +45,8 @@ pub add_vars-requires-clause-valid : goal.add_vars-requires-clause-valid
 add_vars-requires-clause-valid c =
     let file = c.args.self.now in
     let text = c.args.text.now in
-    let valid = extended_is_valid file text _ c.args.raw.now c.requires.valid c.requires.size c.requires.well_read.1 c.requires.room
-    c.requires.faultless in
+    let valid = extended_is_valid file text _ c.args.raw.now c.requires.valid c.requires.size
+    c.requires.well_read.1 c.requires.room c.requires.faultless in
     let spans = sym c.items.ensures in
     subst IsValid
     (λ i. with_vars file (vars_of file text ((sym c.number_at-number.ensures) i) (spans i)) (length (spans i)))
@@ -72,8 +72,8 @@ pub add_hyp-requires-clause-valid : goal.add_hyp-requires-clause-valid
 add_hyp-requires-clause-valid c =
     let file = c.args.self.now in
     let text = c.args.text.now in
-    let valid = extended_is_valid file text _ c.args.raw.now c.requires.valid c.requires.size c.requires.well_read.1 c.requires.room
-    c.requires.faultless in
+    let valid = extended_is_valid file text _ c.args.raw.now c.requires.valid c.requires.size
+    c.requires.well_read.1 c.requires.room c.requires.faultless in
     subst IsValid
     (λ i. with_hyp file (record {
       name = bytes_at text c.in-Hyp.name;
@@ -118,8 +118,8 @@ pub add_goal-requires : goal.add_goal-requires
 add_goal-requires c =
     let file = c.args.self.now in
     let text = c.args.text.now in
-    let valid = extended_is_valid file text _ c.args.raw.now c.requires.valid c.requires.size c.requires.well_read.1 c.requires.room
-    c.requires.faultless in
+    let valid = extended_is_valid file text _ c.args.raw.now c.requires.valid c.requires.size
+    c.requires.well_read.1 c.requires.room c.requires.faultless in
     subst IsValid
     (λ i. with_goal file (record {
       equation = (sym c.in_ok-equation-in-Goal.ensures) i;

@@ -9,7 +9,7 @@ use Rattle.alg_typing.specs.Names.{declared_as}
 use Rattle.alg_typing.specs.Additions.{with_hom}
 use Rattle.alg_typing.proofs.Kept.{kept, taken_back}
 use Rattle.alg_typing.proofs.Tables.{table_with_hom}
-use Rattle.alg_typing.proofs.known.Declared.add_hom.Goals as goal
+use Rattle.alg_typing.proofs.declared.Declared.add_hom.Goals as goal
 
 -- the morphism and its name were added
 pub invariant_of-self-in-Ok : goal.invariant_of-self-in-Ok

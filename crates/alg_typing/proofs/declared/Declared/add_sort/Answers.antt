@@ -10,7 +10,7 @@ use Rattle.alg_typing.specs.Names.{declared_as}
 use Rattle.alg_typing.specs.Resolved.{extended}
 use Rattle.alg_typing.proofs.Kept.{kept, taken_back}
 use Rattle.alg_typing.proofs.Tables.{table_with_sort}
-use Rattle.alg_typing.proofs.known.Declared.add_sort.Goals as goal
+use Rattle.alg_typing.proofs.declared.Declared.add_sort.Goals as goal
 
 -- the sort and its name were added
 pub invariant_of-self-in-Ok : goal.invariant_of-self-in-Ok

@@ -7,7 +7,7 @@ use Rattle.alg_typing.specs.AnswerTerms.{first_fault_of_term}
 use Rattle.alg_typing.specs.Resolved.{term_of}
 use Rattle.alg_typing.proofs.FirstFaults.{memory_tells_nothing, error_tells_nothing}
 use Rattle.alg_typing.proofs.TypedTerms.{small, may_stand}
-use Rattle.alg_typing.proofs.known.Declared.term.Goals as goal
+use Rattle.alg_typing.proofs.declared.Declared.term.Goals as goal
 
 pub goal_at-requires : goal.goal_at-requires
 goal_at-requires c = c.requires.goal

@@ -1,6 +1,6 @@
 use Rattle.std.proofs.Common.{◌≡◌, map, take}
 use Rattle.alg_reader.specs.WellRead.{bytes_at}
-use Rattle.alg_typing.proofs.known.var_decls.Given as goal
+use Rattle.alg_typing.proofs.declared.var_decls.Given as goal
 
 abbrev pub invariant-loop-name : goal.invariant-loop-name
 invariant-loop-name l =

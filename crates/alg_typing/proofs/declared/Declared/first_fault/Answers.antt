@@ -1,6 +1,6 @@
 use Rattle.std.proofs.Common.{subst}
 use Rattle.alg_terms.specs.Valid.{IsValid}
-use Rattle.alg_typing.proofs.known.Declared.first_fault.Goals as goal
+use Rattle.alg_typing.proofs.declared.Declared.first_fault.Goals as goal
 
 pub first_fault-requires : goal.first_fault-requires
 first_fault-requires c = c.requires

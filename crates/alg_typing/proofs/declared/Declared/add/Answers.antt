@@ -1,4 +1,4 @@
-use Rattle.alg_typing.proofs.known.Declared.add.Goals as goal
+use Rattle.alg_typing.proofs.declared.Declared.add.Goals as goal
 
 pub add_read-added-requires-clause-size : goal.add_read-added-requires-clause-size
 add_read-added-requires-clause-size c = c.requires.size

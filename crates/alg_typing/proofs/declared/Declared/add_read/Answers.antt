@@ -1,6 +1,6 @@
 use Rattle.std.proofs.Common.{refl, sym, ◌∙◌}
 use Rattle.alg_typing.proofs.FirstFaults.{memory_tells_nothing, error_is_not_ok, on_error}
-use Rattle.alg_typing.proofs.known.Declared.add_read.Goals as goal
+use Rattle.alg_typing.proofs.declared.Declared.add_read.Goals as goal
 
 pub first_fault-requires : goal.first_fault-requires
 first_fault-requires c = c.requires.well_read.1.kind

@@ -9,7 +9,7 @@ use Rattle.alg_typing.specs.Resolved.{vars_of}
 use Rattle.alg_typing.specs.Table.{var_entries}
 use Rattle.alg_typing.proofs.Kept.{kept, taken_back}
 use Rattle.alg_typing.proofs.VarTables.{are_new, table_with_vars}
-use Rattle.alg_typing.proofs.known.Declared.add_vars.Goals as goal
+use Rattle.alg_typing.proofs.declared.Declared.add_vars.Goals as goal
 
 or_false : (b : Bool) → b ≡ (b || false)
 or_false true = refl
