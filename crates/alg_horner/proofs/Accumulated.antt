@@ -1,11 +1,9 @@
 -- The map of a form to which a multiple of another was added, arm by arm.
 use Rattle.std.specs.Prelude.{◌≡◌, ℕ, ◌+◌, ◌*◌, ◌≤◌, ℤ, pos, ◌+ℤ◌, ◌*ℤ◌}
-use Rattle.std.proofs.Common.{sym, ap, subst, ◌∙◌, arith}
-use Rattle.std.specs.Int.RustNames.{unsigned_abs}
-use Rattle.alg_mono.specs.NumberedPolynomials.{Polynomial}
+use Rattle.std.proofs.Common.{sym, ap, ◌∙◌, arith}
 use Rattle.alg_horner.specs.Form.{Form, weight}
-use Rattle.alg_horner.specs.Maps.{sum, product, constant, power, map_of, placed}
-use Rattle.alg_horner.proofs.Ring.{sum_comm, sum_assoc, product_assoc, product_comm, product_sum, sum_product, zero_sum, constant-sum, constant-product, Is-product, Is-map, Is-constant}
+use Rattle.alg_horner.specs.Maps.{sum, product, constant, map_of, placed}
+use Rattle.alg_horner.proofs.Ring.{zero_sum, constant-sum, constant-product, Is-product, Is-map, Is-constant}
 use Rattle.alg_horner.proofs.Sums.{placed_both, at}
 use Rattle.alg_horner.proofs.Products.{scaled_placed}
 

@@ -1,14 +1,12 @@
 -- The map of the product of two forms, arm by arm.
-use Rattle.std.specs.Prelude.{◌≡◌, ◌≢◌, ℕ, ◌+◌, ◌*◌, ◌-◌, ◌<◌, ◌≤◌, ℤ, pos, ◌*ℤ◌}
+use Rattle.std.specs.Prelude.{◌≡◌, ◌≢◌, ℕ, ◌+◌, ◌*◌, ℤ, pos, ◌*ℤ◌}
 use Rattle.std.proofs.Common.{sym, ap, subst, ◌∙◌, arith}
-use Rattle.std.specs.Int.RustNames.{unsigned_abs}
 use Rattle.alg_mono.proofs.Domain.{product_some}
 use Rattle.alg_mono.proofs.Rows.{some_number}
 use Rattle.alg_mono.specs.NumberedPolynomials.{Polynomial}
 use Rattle.alg_horner.specs.Form.{Form, IsSome, IsHead, weight}
 use Rattle.alg_horner.specs.Maps.{sum, product, constant, power, map_of, placed}
-use Rattle.alg_horner.proofs.Ring.{sum_comm, zero_sum, product_comm, product_assoc, sum_product, product_sum, Is-product, Is-map, Is-power, constant-product}
-use Rattle.alg_horner.proofs.Sums.{at}
+use Rattle.alg_horner.proofs.Ring.{product_comm, product_assoc, sum_product, constant-product}
 
 pub some_times : (c d : ℤ) → c ≢ pos 0 → d ≢ pos 0 → c *ℤ d ≢ pos 0
 some_times c d h g = product_some c d (some_number c h) (some_number d g)
