@@ -1,9 +1,8 @@
-use Rattle.std.proofs.Common.{rules, ◌≡◌, ◌+◌, ℕ, pos, sym, ap, ◌∙◌, arith}
+use Rattle.std.proofs.Common.{rules, ◌≡◌, pos}
 use mir.Syntax.{w128}
 use mir.Val.{SFits}
 use Rattle.std.proofs.lemmas.Int.{to_z-of_z}
 use Rattle.alg_horner.specs.Form.{Form}
-use Rattle.alg_horner.specs.Maps.{map_of, product, constant}
 use Rattle.alg_horner.specs.Trees.{form_of}
 use Rattle.alg_horner.proofs.Accumulated.{acc_none}
 use Rattle.alg_horner.proofs.accumulate.add_copy.Goals as goal

@@ -49,7 +49,7 @@ returns-in-Const-clause-map t c =
     let is : result ≡ c.args.c *ℤ d = simp to_z-of_z at c.multiply_numbers.ensures.product in
     let made = simp to_z-of_z at c.boxed.ensures in
     IfOk-weaker c.boxed.result (λ r. r.value ≡ Const result) (λ r. (s : ℕ) →
-        map_of s (form_of r.value) ≡ product (constant c.args.c) (map_of s (form_of c.args.form.now)))
+    map_of s (form_of r.value) ≡ product (constant c.args.c) (map_of s (form_of c.args.form.now)))
     (λ r e. λ s. scaled_number s c.args.c d result (form_of c.args.form.now) (form_of r.value) is
     (ap form_of c.in-Const.is) (ap form_of e)) made
 
@@ -63,7 +63,7 @@ returns-in_ok-q-in-Mix-clause-map t c =
     let head = simp to_z-of_z at c.in_ok-p-in-Mix.ensures.map in
     let rest = simp to_z-of_z at c.in_ok-q-in-Mix.ensures.map in
     IfOk-weaker c.boxed-in-Mix.result (λ r. r.value ≡ Mix u c.in-Mix.i v) (λ r. (s : ℕ) →
-        map_of s (form_of r.value) ≡ product (constant c.args.c) (map_of s (form_of c.args.form.now)))
+    map_of s (form_of r.value) ≡ product (constant c.args.c) (map_of s (form_of c.args.form.now)))
     (λ r e. λ s. scaled_mix s c.in-Mix.i c.args.c (form_of c.args.form.now) (form_of r.value) p q (form_of u.value)
     (form_of v.value) (ap form_of c.in-Mix.is) (ap form_of e)
     (head s ∙ ap (λ f. product (constant c.args.c) (map_of s (form_of f))) c.deref-in-Mix.ensures)

@@ -1,7 +1,6 @@
-use Rattle.std.proofs.Common.{rules, ◌≡◌, ◌+◌, ◌-◌, ◌*◌, ◌<◌, ◌≤◌, IfOk, ℕ, pos, subst, sym, ap, ◌∙◌, arith}
+use Rattle.std.proofs.Common.{rules, ◌≡◌, ◌+◌, ◌*◌, ◌<◌, ◌≤◌, IfOk, ℕ, pos, subst, sym, ap, ◌∙◌, arith}
 use mir.Syntax.{w128}
 use mir.Val.{SFits}
-use Rattle.std.specs.Int.RustNames.{unsigned_abs}
 use Rattle.std.proofs.lemmas.Int.{to_z-of_z}
 use Rattle.std.proofs.lemmas.Result.{IfOk-weaker}
 use Rattle.alg_mono.specs.NumberedPolynomials.{Polynomial}
@@ -49,7 +48,7 @@ add_product-returns-then-j-eq0-clause-map t c =
     let none : c.args.j ≡ 0 = search rules in
     let made = simp to_z-of_z at c.add_multiple-then-j-eq0.ensures.map in
     subst (λ (f : ℕ → Polynomial). IfOk c.add_multiple-then-j-eq0.result (λ r. (s : ℕ) →
-        map_of s (form_of r.value) ≡ f s))
+    map_of s (form_of r.value) ≡ f s))
     (λ n s. ap (sum (map_of s T)) (product_comm (constant d) (map_of s p)
     ∙ (λ m. product (at s (s + c.args.j) p (omega arith) m) (map_of (s + c.args.k) (ap form_of
     (sym c.in-Const-q.is) m)))) n)
@@ -181,7 +180,7 @@ add_product_raised-returns-in-Skip-clause-map t c =
     let total : c.args.total.value ≡ Skip c.in-Skip.l c.in-Skip.rest = cc
     (c.in-Skip.is, c.replace.ensures.value, c.deref_mut.ensures.value) in
     subst (λ (f : ℕ → Polynomial). IfOk c.product_before-in-Skip.result (λ r. (s : ℕ) →
-        map_of s (form_of r.value) ≡ f s))
+    map_of s (form_of r.value) ≡ f s))
     (λ n s. raised_before s c.args.h
     (product (map_of (s + c.args.j) (form_of c.args.p.now)) (map_of (s + c.args.k) (form_of c.args.q.now)))
     (form_of c.args.total.value) (form_of c.after_some-rest.result.value)
