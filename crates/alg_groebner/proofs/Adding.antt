@@ -29,7 +29,8 @@ module _ (b c : Member) (q : Queue) (f g : Monomial) (first : f ≡ lead b.poly)
   unfolding with_ordered
   opened t e =
       ap (Chosen b c q (lcm nat_cmp f g)) (sym e)
-      ∙ (λ k. Chosen b c q (lcm nat_cmp (first k) (second k)) (nat_lt MAX_DEGREE (degree (lcm nat_cmp (first k) (second k)))))
+      ∙ (λ k. Chosen b c q (lcm nat_cmp (first k) (second k))
+      (nat_lt MAX_DEGREE (degree (lcm nat_cmp (first k) (second k)))))
 
   pub pair_within : degree (lcm nat_cmp f g) ≤ MAX_DEGREE →
       record q { pairs = insert_key pair_cmp q.pairs (record { lcm = lcm nat_cmp f g; j = c.number; i = b.number }) }

@@ -24,7 +24,8 @@ use Rattle.alg_groebner.specs.declared.machine.Ending.TheVariants as endings
 use Rattle.alg_groebner.specs.declared.remainder.Remainder.{Remainder}
 use Rattle.alg_groebner.proofs.Ending.{first_sound, runs_sound, zero_found, position_within}
 
-pub refused_powers : (hyps : List Polynomial) (g : Polynomial) (power limit : ℕ) (e : Overrun) → Tells e (powers_outcome g 1 power) →
+pub refused_powers : (hyps : List Polynomial) (g : Polynomial) (power limit : ℕ) (e : Overrun) → Tells e
+    (powers_outcome g 1 power) →
     Decides hyps g power limit (Err e)
 refused_powers hyps g power limit overruns.Range t = (_, too_great t)
 refused_powers hyps g power limit overruns.Degree t = (_, too_high t)
@@ -43,7 +44,8 @@ steps_few (g ∷ gs) zero = here (length g.steps) (step_count gs)
   where
     here : (a b : ℕ) → a ≤ a + b
     here a b = omega arith
-steps_few (g ∷ gs) (suc r) = further (length g.steps) (length (remainder_at gs r).steps) (step_count gs) (steps_few gs r)
+steps_few (g ∷ gs) (suc r) = further (length g.steps) (length (remainder_at gs r).steps) (step_count gs)
+    (steps_few gs r)
   where
     further : (c a b : ℕ) → a ≤ b → a ≤ c + b
     further c a b h = omega arith
@@ -67,7 +69,8 @@ certificate_short limit st power s =
     let counted = s.counted in
     omega (arith, few, least)
 
-module _ (hyps : List Polynomial) (g : Polynomial) (power limit : ℕ) (few : length hyps < 2 ^ 31) (small : power ≤ 16) (low : limit ≤ 1000000)
+module _ (hyps : List Polynomial) (g : Polynomial) (power limit : ℕ) (few : length hyps < 2 ^ 31) (small : power ≤ 16)
+    (low : limit ≤ 1000000)
     (fine : powers_outcome g 1 power ≡ Outcome.Fine) where
   abbrev pub first : State
   first = first_state hyps (powers g 1 power)
@@ -83,7 +86,8 @@ module _ (hyps : List Polynomial) (g : Polynomial) (power limit : ℕ) (few : le
   proved_bounds r w h =
       let last = h.0 in
       let at_end = runs_sound limit first last (state.Proved r) h.1 (first_sound hyps g power limit few small low) in
-      let zero = position_within (λ (g : Remainder). is_nothing g.rest) 1 last.remainders r (zero_found limit last r at_end.1) in
+      let zero = position_within (λ (g : Remainder). is_nothing g.rest) 1 last.remainders r
+      (zero_found limit last r at_end.1) in
       let sound = at_end.0 in
       let low = zero.0 in
       let high = zero.1 in
@@ -96,16 +100,19 @@ module _ (hyps : List Polynomial) (g : Polynomial) (power limit : ℕ) (few : le
       let limited = sound.limited in
       (low, omega arith, omega arith)
 
-  same_certificate : (w : Work) (last : State) (r : ℕ) → w.given ≡ last.given → w.made ≡ last.made → w.remainders ≡ last.remainders →
+  same_certificate : (w : Work) (last : State) (r : ℕ) → w.given ≡ last.given → w.made ≡ last.made → w.remainders ≡
+      last.remainders →
       work_certificate w r ≡ certificate last r
   same_certificate w last r a b c = λ i. certificate_from (a i) (b i) (remainder_at (c i) (r - 1)).steps r
 
-  pub proved : (r : ℕ) (w : Work) (cert : Cert) → RunsAs limit first (Ok (endings.Proved r)) w → cert ≡ work_certificate w r →
+  pub proved : (r : ℕ) (w : Work) (cert : Cert) → RunsAs limit first (Ok (endings.Proved r)) w → cert ≡
+      work_certificate w r →
       Decides hyps g power limit (Ok (verdicts.Proved cert)) × IsWithinLimit limit (Ok (verdicts.Proved cert))
   proved r w cert h e =
       let last = h.0 in
       let is = e ∙ same_certificate w last r h.2 h.3 h.4 in
-      let sound = (runs_sound limit first last (state.Proved r) h.1 (first_sound hyps g power limit few small low)).0 in (
+      let sound = (runs_sound limit first last (state.Proved r) h.1 (first_sound hyps g power limit few small low)).0
+      in (
         (last, r, runs fine h.1, is),
         subst (λ (c : Cert). length c.lines + length c.steps ≤ limit) (sym is) (certificate_short limit last r sound),
       )

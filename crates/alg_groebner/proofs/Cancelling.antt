@@ -27,14 +27,23 @@ magnitude (negsuc n) h = absurd (omega (arith, ints))
 pub content_number : (p : Polynomial) (d : ℤ) → IsPoly nat_cmp p → pos 1 ≤ℤ d →
     (p ≢ [] → IsContent p (unsigned_abs d)) → (p ≡ [] → d ≡ pos 1) → (d ≡ pos (content p)) × IsDivisible d p
 unfolding content
-content_number [] d h low some none = (none refl, (low, All-nil (λ (y : Monomial × ℤ). unsigned_abs d ∣ unsigned_abs y.1)))
+content_number [] d h low some none = (
+  none refl,
+  (
+    low,
+    All-nil
+        (λ (y : Monomial × ℤ). unsigned_abs d ∣ unsigned_abs y.1),
+  ),
+)
 content_number (e ∷ p) d h low some none =
     let is = some (λ q. grind (arith)) in
-    let lead : e.1 ≢ pos 0 = λ z. subst (λ (c : ℤ). T (Rattle.std.specs.Prelude.not (is_zero c))) z (first (Rattle.std.specs.Prelude.not (is_zero e.1)) _ h.polynomial.canonical.no_none) in
+    let lead : e.1 ≢ pos 0 = λ z. subst (λ (c : ℤ). T (Rattle.std.specs.Prelude.not (is_zero c))) z
+    (first (Rattle.std.specs.Prelude.not (is_zero e.1)) _ h.polynomial.canonical.no_none) in
     (magnitude d low ∙ ap pos (content_is e p (unsigned_abs d) lead is), (low, is.divides))
 
 module _ (m : Monomial) (p : Polynomial) (n : Monomial) (q : Polynomial) (u v a b : ℤ)
-    (first_lead : u ≡ leading p) (second_lead : v ≡ leading q) (left : a ≡ left_factor u v) (right : b ≡ right_factor u v) where
+    (first_lead : u ≡ leading p) (second_lead : v ≡ leading q) (left : a ≡ left_factor u v)
+    (right : b ≡ right_factor u v) where
   left_is : a ≡ left_factor (leading p) (leading q)
   left_is = left ∙ (λ i. left_factor (first_lead i) (second_lead i))
 

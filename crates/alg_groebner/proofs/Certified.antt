@@ -28,7 +28,8 @@ all_hypotheses s n k h =
     get_or_append_left (replicate s true) (replicate n false) false k (let l = length-replicate s true in omega arith)
     ∙ get_or-replicate s k true false h
 
-cited : (ss : List GoalStep) (bs : List Bool) (all : List Polynomial) (g h : Polynomial) → AreSteps all g ss h → length all ≤ length bs →
+cited : (ss : List GoalStep) (bs : List Bool) (all : List Polynomial) (g h : Polynomial) → AreSteps all g ss h →
+    length all ≤ length bs →
     AllCited (mark_steps ss bs) ss
 cited [] bs all g h a l = tt
 cited (s ∷ ss) bs all g h a l =
@@ -49,7 +50,8 @@ keep_all (b ∷ bs) [] f = refl
 keep_all (true ∷ bs) (x ∷ xs) f = ap (λ ys. x ∷ ys) (keep_all bs xs (λ k h. f (suc k) (omega arith)))
 keep_all (false ∷ bs) (x ∷ xs) f = absurd (let e = f 0 (omega arith) in let n : false ≡ true = e in grind arith)
 
-length-lines : (lines : List Polynomial) (ls : List Line) (all : List Polynomial) → AreLines lines ls all → length all ≡ length lines + length ls
+length-lines : (lines : List Polynomial) (ls : List Line) (all : List Polynomial) → AreLines lines ls all → length all
+    ≡ length lines + length ls
 length-lines lines [] all a = let e = ap (λ (xs : List Polynomial). length xs) a in omega arith
 length-lines lines (l ∷ ls) all a =
     let longer = length-append lines (a.0 ∷ []) in
@@ -57,7 +59,8 @@ length-lines lines (l ∷ ls) all a =
     omega arith
 
 -- what is pruned is good where the whole is
-pruned_good : (hyps : List Polynomial) (made : List Line) (all : List Polynomial) (g : Polynomial) (ss : List GoalStep) →
+pruned_good : (hyps : List Polynomial) (made : List Line) (all : List Polynomial) (g : Polynomial)
+    (ss : List GoalStep) →
     AreLines hyps made all → AreSteps all g ss [] →
     let bs = marks_of (length hyps) made ss in
     AreLines hyps (kept_lines (numbers_after 0 bs) (drop (length hyps) bs) made) (keep bs all)
@@ -69,19 +72,25 @@ pruned_good hyps made all g ss a b =
     let bs = marks_of s made ss in
     let size = length-marks_of s made ss in
     let size_first : length first ≡ s + length made =
-    length-append (replicate s true) (replicate (length made) false) ∙ (λ i. length-replicate s true i + length-replicate (length made) false i) in
+    length-append (replicate s true) (replicate (length made) false) ∙
+    (λ i. length-replicate s true i + length-replicate (length made) false i) in
     let size_stepped = length-mark_steps ss first in
     let total = length-lines hyps made all a in
-    let hypotheses = keep_all bs hyps (λ k h. lines_rise s made stepped k (steps_rise ss first k (all_hypotheses s (length made) k h))) in
-    let whole = closed s made stepped (bounded hyps s made all refl a) (omega arith) (λ q ks. length-mark_lines q ks stepped) in
-    let steps = cited_more stepped bs ss (λ k h. lines_rise s made stepped k h) (cited ss first all g [] b (omega arith)) in
+    let hypotheses = keep_all bs hyps (λ k h. lines_rise s made stepped k
+    (steps_rise ss first k (all_hypotheses s (length made) k h))) in
+    let whole = closed s made stepped (bounded hyps s made all refl a) (omega arith)
+    (λ q ks. length-mark_lines q ks stepped) in
+    let steps = cited_more stepped bs ss (λ k h. lines_rise s made stepped k h)
+    (cited ss first all g [] b (omega arith)) in
     let lines = lines_kept bs hyps s made all refl (omega arith) a whole in (
-      subst (λ (xs : List Polynomial). AreLines xs (kept_lines (numbers_after 0 bs) (drop s bs) made) (keep bs all)) hypotheses lines,
+      subst (λ (xs : List Polynomial). AreLines xs (kept_lines (numbers_after 0 bs) (drop s bs) made) (keep bs all))
+          hypotheses lines,
       steps_kept bs all g ss [] b steps,
     )
 
 -- ---- the run
-runs_faithful : (hyps : List Polynomial) (g : Polynomial) (limit : ℕ) (st last : State) (e : End) → Runs limit st last e → IsSound limit st →
+runs_faithful : (hyps : List Polynomial) (g : Polynomial) (limit : ℕ) (st last : State) (e : End) → Runs limit st last
+    e → IsSound limit st →
     IsFaithful hyps g st → IsFaithful hyps g last
 runs_faithful hyps g limit st last e (now h) s f = f
 runs_faithful hyps g limit st last e (later {to = to} h r) s f =
@@ -98,7 +107,8 @@ both_fine Outcome.Fine p e = (refl, e)
 both_fine Outcome.Range p e = absurd (subst IsFine (sym e) tt)
 both_fine Outcome.Degree p e = absurd (subst IsFine (sym e) tt)
 
-first_steps : (lines : List Polynomial) (g : Polynomial) (r n : ℕ) → powers_outcome g r n ≡ Outcome.Fine → AllSteps lines g r (powers g r n)
+first_steps : (lines : List Polynomial) (g : Polynomial) (r n : ℕ) → powers_outcome g r n ≡ Outcome.Fine → AllSteps
+    lines g r (powers g r n)
 first_steps lines g r zero e = tt
 first_steps lines g r (suc n) e =
     let both = both_fine (power_outcome g r) (powers_outcome g (r + 1) n) e in
@@ -117,14 +127,16 @@ zero_steps lines g n (x ∷ xs) r h e =
           let same = same_some n r q in (
             subst (λ k. power_outcome g k ≡ Outcome.Fine) same h.0,
             subst (λ (y : Remainder). AreSteps lines (power_of g r) y.steps []) (sym (here x xs (r - n) (omega arith)))
-                (subst (λ k. AreSteps lines (power_of g k) x.steps []) same (subst (λ (p : Polynomial). AreSteps lines (power_of g n) x.steps p) (empty x.rest z) h.1)),
+                (subst (λ k. AreSteps lines (power_of g k) x.steps []) same
+                (subst (λ (p : Polynomial). AreSteps lines (power_of g n) x.steps p) (empty x.rest z) h.1)),
           )
       | false ↦ λ z q.
           let w = position_within (λ (x : Remainder). is_nothing x.rest) (n + 1) xs r q in
           let low = w.0 in
           let further = zero_steps lines g (n + 1) xs r h.2 q in (
             further.0,
-            subst (λ (y : Remainder). AreSteps lines (power_of g r) y.steps []) (sym (there x xs (r - n) (r - (n + 1)) (omega arith))) further.1,
+            subst (λ (y : Remainder). AreSteps lines (power_of g r) y.steps [])
+                (sym (there x xs (r - n) (r - (n + 1)) (omega arith))) further.1,
           )
     ] refl e
   where
@@ -140,7 +152,8 @@ zero_steps lines g n (x ∷ xs) r h e =
 
 -- ---- the law
 module _ (hyps : List Polynomial) (g : Polynomial) (limit : ℕ) where
-  faithful_first : (power : ℕ) → All IsP hyps → powers_outcome g 1 power ≡ Outcome.Fine → IsFaithful hyps g (first_state hyps (powers g 1 power))
+  faithful_first : (power : ℕ) → All IsP hyps → powers_outcome g 1 power ≡ Outcome.Fine → IsFaithful hyps g
+      (first_state hyps (powers g 1 power))
   faithful_first power polys fine = record { polys = polys; lines = refl; steps = first_steps hyps g 1 power fine }
 
   abbrev Pruned : List Line → List Polynomial → List GoalStep → Polynomial → ℕ → Type 0
@@ -149,7 +162,8 @@ module _ (hyps : List Polynomial) (g : Polynomial) (limit : ℕ) where
       AreLines hyps (kept_lines (numbers_after 0 bs) (drop s bs) made) (keep bs all)
       × AreSteps (keep bs all) start (map (renumbered_step (numbers_after 0 bs)) ss) []
 
-  run_good : (first last : State) (r : ℕ) → Runs limit first last (End.Proved r) → IsSound limit first → IsFaithful hyps g first → IsGood hyps g (certificate last r)
+  run_good : (first last : State) (r : ℕ) → Runs limit first last (End.Proved r) → IsSound limit first → IsFaithful
+      hyps g first → IsGood hyps g (certificate last r)
   unfolding certificate_from
   run_good first last r ran s f =
       let at_end = runs_sound limit first last (End.Proved r) ran s in
@@ -162,16 +176,19 @@ module _ (hyps : List Polynomial) (g : Polynomial) (limit : ℕ) where
       let sum = at_end.0.lines in
       let few = at_end.0.powers in
       let given : last.given ≡ length hyps = omega arith in
-      let parts = subst (Pruned last.made last.lines ss (power_of g r)) (sym given) (pruned_good hyps last.made last.lines (power_of g r) ss faith.lines zero.1) in
+      let parts = subst (Pruned last.made last.lines ss (power_of g r)) (sym given)
+      (pruned_good hyps last.made last.lines (power_of g r) ss faith.lines zero.1) in
       let high = within.1 in
       good (keep (marks_of last.given last.made ss) last.lines) ((within.0, omega arith), zero.0) (parts.0, parts.1)
 
-  come_good : (power : ℕ) (last : State) (e : End) (r : ℕ) → All IsP hyps → length hyps < 2 ^ 31 → power ≤ 16 → limit ≤ 1000000 →
+  come_good : (power : ℕ) (last : State) (e : End) (r : ℕ) → All IsP hyps → length hyps < 2 ^ 31 → power ≤ 16 → limit
+      ≤ 1000000 →
       Comes hyps g power limit last e → e ≡ End.Proved r → IsGood hyps g (certificate last r)
   come_good power last e r polys few small low (too_great t) q = absurd (grind arith)
   come_good power last e r polys few small low (too_high t) q = absurd (grind arith)
   come_good power last e r polys few small low (runs f ran) q =
-      run_good (first_state hyps (powers g 1 power)) last r (subst (λ (x : End). Runs limit (first_state hyps (powers g 1 power)) last x) q ran)
+      run_good (first_state hyps (powers g 1 power)) last r (subst
+      (λ (x : End). Runs limit (first_state hyps (powers g 1 power)) last x) q ran)
       (first_sound hyps g power limit few small low) (faithful_first power polys f)
 
 pub certificates_are_good : CertificatesAreGood

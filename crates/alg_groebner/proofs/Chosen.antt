@@ -8,7 +8,8 @@ use Rattle.alg_groebner.specs.Choices.{reducer, found_at, first_reducible, remai
 use Rattle.alg_groebner.specs.declared.remainder.Remainder.{Remainder}
 use Rattle.alg_groebner.proofs.Found.{same_some, none_some, found}
 
-pub reducer_says : (lines : List Polynomial) (basis : List ℕ) (p : Polynomial) (j : ℕ) → reducer lines basis p ≡ Some j →
+pub reducer_says : (lines : List Polynomial) (basis : List ℕ) (p : Polynomial) (j : ℕ) → reducer lines basis p ≡ Some
+    j →
     reduces (line_at lines j) p ≡ true
 reducer_says lines basis p j e = found (λ k. reduces (line_at lines k) p) basis j e
 
@@ -46,7 +47,8 @@ reducible_says lines basis (g ∷ gs) n r j e =
               (subst (λ i. reduces (line_at lines i) g.rest ≡ true) line says),
         )
 
-    later : ((n + 1) ≤ r) × (r < (n + 1) + length gs) × (reduces (line_at lines j) (remainder_at gs (r - (n + 1))).rest ≡ true) →
+    later : ((n + 1) ≤ r) × (r < (n + 1) + length gs) × (reduces (line_at lines j)
+        (remainder_at gs (r - (n + 1))).rest ≡ true) →
         (n ≤ r) × (r < n + length (g ∷ gs)) × (reduces (line_at lines j) (remainder_at (g ∷ gs) (r - n)).rest ≡ true)
     later h =
         let low = h.0 in

@@ -29,7 +29,8 @@ one_end limit st a b e f (later {to = to} h r) (later {to = too} k s) =
     let same : to ≡ too = ap (state_or st) (sym h ∙ k) in
     one_end limit too a b e f (subst (λ (x : State). Runs limit x a e) same r) s
 
-some_end_in : (n limit : ℕ) (st : State) → IsSound limit st → work limit st < n → (last : State) × (e : End) × Runs limit st last e
+some_end_in : (n limit : ℕ) (st : State) → IsSound limit st → work limit st < n → (last : State) × (e : End) × Runs
+    limit st last e
 some_end_in zero limit st s h = absurd (omega arith)
 some_end_in (suc n) limit st s h = go (λ to t w. some_end_in n limit to t w) (next limit st) refl
   where

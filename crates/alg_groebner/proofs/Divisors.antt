@@ -80,7 +80,8 @@ greatest_least (suc n) d cs h t =
     no : false ≡ true → ⊥
     no p = grind arith
 
-    other : (d n : ℕ) (cs : List ℤ) → d ≤ suc n → DividesAll d cs → list_all (λ c. unsigned_abs c % suc n == 0) cs ≡ false → d ≢ suc n
+    other : (d n : ℕ) (cs : List ℤ) → d ≤ suc n → DividesAll d cs → list_all (λ c. unsigned_abs c % suc n == 0) cs ≡
+        false → d ≢ suc n
     other d n cs h t e same = no (sym e ∙ subst (λ k. list_all (λ c. unsigned_abs c % k == 0) cs ≡ true) same t)
 
 -- what divides all, and is divided by each that does
@@ -160,7 +161,8 @@ content_divides (e ∷ p) s =
     let cs = e.1 ∷ numbers p in
     let g = greatest_up_to (unsigned_abs e.1) cs in
     let divides : DividesAll g cs = greatest_divides (unsigned_abs e.1) cs in
-    let some : e.1 ≢ pos 0 = λ z. subst (λ (c : ℤ). T (not (is_zero c))) z (first (not (is_zero e.1)) _ s.canonical.no_none) in
+    let some : e.1 ≢ pos 0 = λ z. subst (λ (c : ℤ). T (not (is_zero c))) z
+    (first (not (is_zero e.1)) _ s.canonical.no_none) in
     (pos_of_dvd_of_pos (all_first g e.1 (numbers p) divides) (some_size e.1 some), number_each g (e ∷ p) divides)
 
 -- so does the common divisor of the leading coefficients

@@ -81,7 +81,8 @@ module _ (limit : ℕ) where
   zero_found st r e = subst (Says st) e (power_says st (zero_power st.remainders) refl)
 
   -- the state where a run ends is sound, and its next step is the end
-  pub runs_sound : (st last : State) (e : End) → Runs limit st last e → IsSound limit st → IsSound limit last × (next limit last ≡ Ends e)
+  pub runs_sound : (st last : State) (e : End) → Runs limit st last e → IsSound limit st → IsSound limit last ×
+      (next limit last ≡ Ends e)
   runs_sound st last e (now h) s = (s, h)
   runs_sound st last e (later {to = to} h r) s = runs_sound to last e r ((goes_kept limit st to s h).0)
 
@@ -91,7 +92,8 @@ position_within t n [] r e = absurd (none_some r e)
 position_within t n (x ∷ xs) r e =
     elim (t x) as (λ b. cond b (Some n) (position_from t (n + 1) xs) ≡ Some r → (n ≤ r) × (r < n + length (x ∷ xs))) [
       | true ↦ λ s. let q = same_some n r s in (omega arith, omega arith)
-      | false ↦ λ s. let h = position_within t (n + 1) xs r s in let low = h.0 in let high = h.1 in (omega arith, omega arith)
+      | false ↦ λ s. let h = position_within t (n + 1) xs r s in let low = h.0 in let high = h.1 in
+          (omega arith, omega arith)
     ] e
 
 -- ---- the first state
@@ -103,7 +105,8 @@ no_steps : (g : Polynomial) (r n : ℕ) → step_count (powers g r n) ≡ 0
 no_steps g r zero = refl
 no_steps g r (suc n) = let e = no_steps g (r + 1) n in omega arith
 
-pub first_sound : (hyps : List Polynomial) (g : Polynomial) (power limit : ℕ) → length hyps < 2 ^ 31 → power ≤ 16 → limit ≤ 1000000 →
+pub first_sound : (hyps : List Polynomial) (g : Polynomial) (power limit : ℕ) → length hyps < 2 ^ 31 → power ≤ 16 →
+    limit ≤ 1000000 →
     IsSound limit (first_state hyps (powers g 1 power))
 first_sound hyps g power limit few small low = record {
   hypotheses = few;

@@ -27,7 +27,8 @@ times_over d (e ∷ p) h =
     let P = λ (y : Monomial × ℤ). d ∣ unsigned_abs y.1 in
     λ i. (e.0, exact_quotient e.1 (pos d) (All-head P e p h) i) ∷ times_over d p (All-tail P e p h) i
 
-row_is_times : (c : ℤ) (p : Polynomial) → Each (λ m. IsCanonical nat_cmp exponents m) p → row_of [] c p ≡ times_number c p
+row_is_times : (c : ℤ) (p : Polynomial) → Each (λ m. IsCanonical nat_cmp exponents m) p → row_of [] c p ≡ times_number
+    c p
 row_is_times c [] h = refl
 row_is_times c (e ∷ p) h =
     λ i. (one_mono_times nat_cmp_total nat_cmp-IsAntisymmetric e.0 h.0 i, c *ℤ e.1) ∷ row_is_times c p h.1 i
@@ -43,7 +44,8 @@ exactly p s =
     let h = content_divides p s in
     let low = h.0 in
     let times = times_over d p h.1 in
-    let sound = IsPolynomial-from_times (pos d) (over_number (pos d) p) (subst (IsPolynomial nat_cmp integers) (sym times) s) in
+    let sound = IsPolynomial-from_times (pos d) (over_number (pos d) p)
+    (subst (IsPolynomial nat_cmp integers) (sym times) s) in
     let some : pos d ≢ pos 0 = λ e. let n : d ≡ 0 = ap unsigned_abs e in omega arith in
     multiple_is_row (pos d) [] (over_number (pos d) p) some sound
     ∙ row_is_times (pos d) (over_number (pos d) p) sound.monomials ∙ times

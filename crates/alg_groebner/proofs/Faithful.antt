@@ -35,18 +35,24 @@ use Rattle.alg_groebner.proofs.Divisors.{common_divides, content_divides, some_s
 -- ---- one more line, one more step
 pub lines_more : (lines : List Polynomial) (ls : List Line) (all : List Polynomial) (l : Line) (new : Polynomial) →
     AreLines lines ls all → IsGoodLine all l × IsLineOf all l new → AreLines lines (ls ++ l ∷ []) (all ++ new ∷ [])
-lines_more lines [] all l new h g =
-    (new, subst (λ (xs : List Polynomial). IsGoodLine xs l × IsLineOf xs l new) h g, ap (λ (xs : List Polynomial). xs ++ new ∷ []) h)
+lines_more lines [] all l new h g = (
+  new,
+  subst (λ (xs : List Polynomial). IsGoodLine xs l × IsLineOf xs l new) h g,
+  ap
+      (λ (xs : List Polynomial). xs ++ new ∷ []) h,
+)
 lines_more lines (k ∷ ls) all l new h g = (h.0, h.1, lines_more (lines ++ h.0 ∷ []) ls all l new h.2 g)
 
-pub steps_more : (lines : List Polynomial) (g : Polynomial) (ss : List GoalStep) (h : Polynomial) (s : GoalStep) (after : Polynomial) →
+pub steps_more : (lines : List Polynomial) (g : Polynomial) (ss : List GoalStep) (h : Polynomial) (s : GoalStep)
+    (after : Polynomial) →
     AreSteps lines g ss h → IsGoodStep lines s h × IsStepOf lines s h after → AreSteps lines g (ss ++ s ∷ []) after
 steps_more lines g [] h s after a b =
     (after, subst (λ (x : Polynomial). IsGoodStep lines s x × IsStepOf lines s x after) a b, refl)
 steps_more lines g (t ∷ ss) h s after a b = (a.0, a.1, steps_more lines a.0 ss h s after a.2 b)
 
 -- a longer list of lines keeps the steps
-at_longer : (lines : List Polynomial) (p : Polynomial) (k : ℕ) → IsOneOf lines k → line_at (lines ++ p ∷ []) k ≡ line_at lines k
+at_longer : (lines : List Polynomial) (p : Polynomial) (k : ℕ) → IsOneOf lines k → line_at (lines ++ p ∷ []) k ≡
+    line_at lines k
 at_longer lines p k h = let high = h.1 in get_or_append_left ([] ∷ lines) (p ∷ []) [] k (omega arith)
 
 one_longer : (lines : List Polynomial) (p : Polynomial) (k : ℕ) → IsOneOf lines k → IsOneOf (lines ++ p ∷ []) k
@@ -66,13 +72,15 @@ step_longer lines p s before after (g, made) =
       subst (λ (q : Polynomial). multiple_of s.d [] after ≡ combination s.a [] before s.b s.n q) at made,
     )
 
-pub steps_longer : (lines : List Polynomial) (p g : Polynomial) (ss : List GoalStep) (h : Polynomial) → AreSteps lines g ss h →
+pub steps_longer : (lines : List Polynomial) (p g : Polynomial) (ss : List GoalStep) (h : Polynomial) → AreSteps lines
+    g ss h →
     AreSteps (lines ++ p ∷ []) g ss h
 steps_longer lines p g [] h a = a
 steps_longer lines p g (s ∷ ss) h a = (a.0, step_longer lines p s g a.0 a.1, steps_longer lines p a.0 ss h a.2)
 
 -- ---- what is cancelled is good
-module _ (lines : List Polynomial) (m : Monomial) (i : ℕ) (n : Monomial) (j : ℕ) (first : IsOneOf lines i) (second : IsOneOf lines j)
+module _ (lines : List Polynomial) (m : Monomial) (i : ℕ) (n : Monomial) (j : ℕ) (first : IsOneOf lines i)
+    (second : IsOneOf lines j)
     (fine : cancel_outcome m (line_at lines i) n (line_at lines j) ≡ Outcome.Fine)
     (sound : IsPolynomial nat_cmp integers (crossed m (line_at lines i) n (line_at lines j))) where
   pub good_line :
@@ -112,7 +120,8 @@ pub IsPolynomial-crossed : (m : Monomial) (p : Polynomial) (n : Monomial) (q : P
 IsPolynomial-crossed m p n q =
     let a = left_factor (leading p) (leading q) in
     let b = right_factor (leading p) (leading q) in
-    IsPolynomial-plus integer_laws nat_cmp_total nat_cmp-IsAntisymmetric (multiple_of a m p) (poly_neg (multiple_of b n q))
+    IsPolynomial-plus integer_laws nat_cmp_total nat_cmp-IsAntisymmetric (multiple_of a m p)
+    (poly_neg (multiple_of b n q))
     (IsPolynomial-multiple a m p)
     (IsPolynomial-neg nat_cmp_total nat_cmp-IsAntisymmetric (multiple_of b n q) (IsPolynomial-multiple b n q))
 

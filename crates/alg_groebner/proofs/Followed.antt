@@ -41,12 +41,20 @@ pub record IsFaithful (hyps : List Polynomial) (g : Polynomial) (st : State) : T
   pub lines : AreLines hyps st.made st.lines
   pub steps : AllSteps st.lines g 1 st.remainders
 
-all_longer : (lines : List Polynomial) (p g : Polynomial) (r : ℕ) (xs : List Remainder) → AllSteps lines g r xs → AllSteps (lines ++ p ∷ []) g r xs
+all_longer : (lines : List Polynomial) (p g : Polynomial) (r : ℕ) (xs : List Remainder) → AllSteps lines g r xs →
+    AllSteps (lines ++ p ∷ []) g r xs
 all_longer lines p g r [] h = h
-all_longer lines p g r (x ∷ xs) h = (h.0, steps_longer lines p (power_of g r) x.steps x.rest h.1, all_longer lines p g (r + 1) xs h.2)
+all_longer lines p g r (x ∷ xs) h = (
+  h.0,
+  steps_longer lines p (power_of g r) x.steps x.rest h.1,
+  all_longer lines p g
+      (r + 1) xs h.2,
+)
 
-all_set : (lines : List Polynomial) (g : Polynomial) (r i : ℕ) (xs : List Remainder) (y : Remainder) → AllSteps lines g r xs →
-    ((b : Polynomial) → AreSteps lines b (remainder_at xs i).steps (remainder_at xs i).rest → AreSteps lines b y.steps y.rest) →
+all_set : (lines : List Polynomial) (g : Polynomial) (r i : ℕ) (xs : List Remainder) (y : Remainder) → AllSteps lines
+    g r xs →
+    ((b : Polynomial) → AreSteps lines b (remainder_at xs i).steps (remainder_at xs i).rest → AreSteps lines b y.steps
+    y.rest) →
     AllSteps lines g r (slice_set xs i y)
 all_set lines g r i [] y h f = h
 all_set lines g r zero (x ∷ xs) y h f = (h.0, f (power_of g r) h.1, h.2)
@@ -56,11 +64,13 @@ nothing_sound : IsP []
 nothing_sound = record { canonical = record { rises = tt; no_none = tt }; monomials = tt }
 
 sound_at : (lines : List Polynomial) (k : ℕ) → All IsP lines → IsOneOf lines k → IsP (line_at lines k)
-sound_at lines k h o = let high = o.1 in All-get_or IsP ([] ∷ lines) k [] (omega arith) (All-cons IsP [] lines nothing_sound h)
+sound_at lines k h o = let high = o.1 in All-get_or IsP ([] ∷ lines) k [] (omega arith)
+    (All-cons IsP [] lines nothing_sound h)
 
 leading_some : (p : Polynomial) → IsP p → p ≢ [] → leading p ≢ pos 0
 leading_some [] s h z = absurd (h refl)
-leading_some (e ∷ p) s h z = subst (λ c. T (Rattle.std.specs.Prelude.not (is_zero c))) z (first (Rattle.std.specs.Prelude.not (is_zero e.1)) _ s.canonical.no_none)
+leading_some (e ∷ p) s h z = subst (λ c. T (Rattle.std.specs.Prelude.not (is_zero c))) z
+    (first (Rattle.std.specs.Prelude.not (is_zero e.1)) _ s.canonical.no_none)
 
 module _ (hyps : List Polynomial) (g : Polynomial) (limit : ℕ) where
   abbrev Faith : State → Type 0
@@ -70,7 +80,8 @@ module _ (hyps : List Polynomial) (g : Polynomial) (limit : ℕ) where
   Follows (Goes to) = Faith to
   Follows (Ends e) = Unit {0}
 
-  line_follows : (st : State) (pairs : List Pair) (m : Monomial) (i : ℕ) (n : Monomial) (j : ℕ) → Faith st → IsOneOf st.lines i → IsOneOf st.lines j →
+  line_follows : (st : State) (pairs : List Pair) (m : Monomial) (i : ℕ) (n : Monomial) (j : ℕ) → Faith st → IsOneOf
+      st.lines i → IsOneOf st.lines j →
       cancel_outcome m (line_at st.lines i) n (line_at st.lines j) ≡ Outcome.Fine →
       Faith (with_line (without_pair st pairs) m i n j (cancelled m (line_at st.lines i) n (line_at st.lines j)))
   unfolding with_line
@@ -79,12 +90,15 @@ module _ (hyps : List Polynomial) (g : Polynomial) (limit : ℕ) where
       let q = line_at st.lines j in
       let c = cancelled m p n q in
       record {
-        polys = All-append IsP st.lines (c.poly ∷ []) f.polys (All-cons IsP c.poly [] (IsPolynomial-cancelled m p n q) (All-nil IsP));
-        lines = lines_more hyps st.made st.lines _ c.poly f.lines (good_line st.lines m i n j a b fine (IsPolynomial-crossed m p n q));
+        polys = All-append IsP st.lines (c.poly ∷ []) f.polys
+            (All-cons IsP c.poly [] (IsPolynomial-cancelled m p n q) (All-nil IsP));
+        lines = lines_more hyps st.made st.lines _ c.poly f.lines
+            (good_line st.lines m i n j a b fine (IsPolynomial-crossed m p n q));
         steps = all_longer st.lines c.poly g 1 st.remainders f.steps;
       }
 
-  goal_follows : (st : State) (r j : ℕ) → Faith st → IsOneOf st.lines j → line_at st.lines j ≢ [] → goal_outcome st r j ≡ Outcome.Fine →
+  goal_follows : (st : State) (r j : ℕ) → Faith st → IsOneOf st.lines j → line_at st.lines j ≢ [] → goal_outcome st r
+      j ≡ Outcome.Fine →
       Faith (goal_reduced st r j)
   unfolding stepped
   goal_follows st r j f o some fine =
@@ -140,7 +154,8 @@ module _ (hyps : List Polynomial) (g : Polynomial) (limit : ℕ) where
         | false ↦ pairs_follow st st.pairs f s.pairs
       ]
 
-  reducible_follows : (st : State) (o : Option (ℕ × ℕ)) → first_reducible st.lines st.basis 0 st.remainders ≡ o → IsSound limit st → Faith st →
+  reducible_follows : (st : State) (o : Option (ℕ × ℕ)) → first_reducible st.lines st.basis 0 st.remainders ≡ o →
+      IsSound limit st → Faith st →
       Follows (by_reducible limit st o)
   reducible_follows st None e s f = inputs_follow st s f
   reducible_follows st (Some x) e s f =
@@ -149,7 +164,8 @@ module _ (hyps : List Polynomial) (g : Polynomial) (limit : ℕ) where
       counted_follows st (goal_reduced st x.0 x.1) (goal_outcome st x.0 x.1)
       (λ fine. goal_follows st x.0 x.1 f (there_number st.lines x.1 some) some fine)
 
-  reducer_follows : (st : State) (k : ℕ) (p : Polynomial) (o : Option ℕ) → reducer st.lines st.basis p ≡ o → IsNumber st.lines k → Faith st →
+  reducer_follows : (st : State) (k : ℕ) (p : Polynomial) (o : Option ℕ) → reducer st.lines st.basis p ≡ o → IsNumber
+      st.lines k → Faith st →
       Follows (by_reducer limit st k o)
   reducer_follows st k p None e n f = record { polys = f.polys; lines = f.lines; steps = f.steps }
   reducer_follows st k p (Some j) e n f =
@@ -157,11 +173,13 @@ module _ (hyps : List Polynomial) (g : Polynomial) (limit : ℕ) where
       counted_follows st (line_reduced st k j) (line_outcome st k j)
       (λ fine. line_follows st st.pairs _ k _ j f n (there_number st.lines j some) fine)
 
-  line_rules_follow : (st : State) (k : ℕ) (p : Polynomial) → IsNumber st.lines k → Faith st → Follows (by_line limit st k p)
+  line_rules_follow : (st : State) (k : ℕ) (p : Polynomial) → IsNumber st.lines k → Faith st → Follows
+      (by_line limit st k p)
   line_rules_follow st k [] n f = record { polys = f.polys; lines = f.lines; steps = f.steps }
   line_rules_follow st k (e ∷ p) n f = reducer_follows st k (e ∷ p) (reducer st.lines st.basis (e ∷ p)) refl n f
 
-  current_follows : (st : State) (o : Option ℕ) → IfSome o (IsNumber st.lines) → IsSound limit st → Faith st → Follows (by_current limit st o)
+  current_follows : (st : State) (o : Option ℕ) → IfSome o (IsNumber st.lines) → IsSound limit st → Faith st → Follows
+      (by_current limit st o)
   current_follows st None c s f = reducible_follows st (first_reducible st.lines st.basis 0 st.remainders) refl s f
   current_follows st (Some k) c s f = line_rules_follow st k (line_at st.lines k) c f
 

@@ -25,7 +25,8 @@ found test (y ∷ xs) x e =
       | false ↦ λ t s. found test xs x s
     ] refl e
 
-pub found_holds : {A : Type 0} (P : A → Type 0) (test : A → Bool) (xs : List A) (x : A) → All P xs → Some x ≡ find test xs → P x
+pub found_holds : {A : Type 0} (P : A → Type 0) (test : A → Bool) (xs : List A) (x : A) → All P xs → Some x ≡ find
+    test xs → P x
 found_holds P test [] x a e = absurd (none_some x (sym e))
 found_holds P test (y ∷ xs) x a e =
     elim (test y) as (λ b. Some x ≡ cond b (Some y) (find test xs) → P x) [
@@ -57,7 +58,8 @@ reducible_says basis (g ∷ gs) n r b e =
     at_more : (d m : ℕ) → d ≡ suc m → remainder_at (g ∷ gs) d ≡ remainder_at gs m
     at_more d m z = ap (remainder_at (g ∷ gs)) z
 
-    here : (k : Member) → member_reducer basis g.rest ≡ Some k → ◌≡◌ {A = Option (ℕ × Member)} (Some (n, k)) (Some (r, b)) →
+    here : (k : Member) → member_reducer basis g.rest ≡ Some k → ◌≡◌ {A = Option (ℕ × Member)} (Some (n, k))
+        (Some (r, b)) →
         Reduced (g ∷ gs) n r b
     here k t q =
         let first : ℕ × Member = (n, k) in
@@ -83,7 +85,8 @@ reducible_says basis (g ∷ gs) n r b e =
         )
 
 -- the same of the remainder at that place
-module _ (basis : List Member) (gs : List Remainder) (r : ℕ) (b : Member) (chosen : Some (r, b) ≡ member_reducible basis 0 gs) where
+module _ (basis : List Member) (gs : List Remainder) (r : ℕ) (b : Member)
+    (chosen : Some (r, b) ≡ member_reducible basis 0 gs) where
   pub place_within : r < length gs
   place_within = let h = (reducible_says basis gs 0 r b (sym chosen)).1 in omega arith
 

@@ -1,112 +1,27 @@
 -- Each step keeps what holds of the states, and leaves less to do.
-use Rattle.std.specs.Prelude.{◌≡◌, ◌≢◌, ℕ, ◌<◌, true, false, cond, List, [], ◌∷◌, ◌++◌, Option, Some, None, length, min, max, All, ◌+◌, slice_set, zero, suc, ◌≤◌}
+use Rattle.std.specs.Prelude.{◌≡◌, ◌≢◌, ℕ, ◌<◌, cond, List, [], ◌∷◌, ◌++◌, Option, Some, None, length, All}
 use Rattle.std.proofs.Common.{refl, sym, ap, subst, arith, inl, inr}
-use Rattle.std.specs.declared.cmp.Ordering.TheVariants.{Less, Equal, Greater}
-use Rattle.std.specs.Ordering.{match_ordering, nat_cmp}
-use Rattle.std.specs.FinMap.{nat_cmp-IsAntisymmetric}
+use Rattle.std.specs.Ordering.{nat_cmp}
 use Rattle.std.specs.BTreeSet.{insert_key}
 use Rattle.std.proofs.lemmas.Bool.{cases_lt}
 use Rattle.std.proofs.lemmas.Map.Views.{All-insert_key}
-use Rattle.std.proofs.lemmas.List.{get_or_append_left, length-append, length-set}
-use Rattle.std.proofs.lemmas.List.Elements.{All-nil, All-cons, All-head, All-tail, All-weaker}
+use Rattle.std.proofs.lemmas.List.{length-append, length-set}
+use Rattle.std.proofs.lemmas.List.Elements.{All-tail, All-weaker}
 use Rattle.alg_mono.specs.Outcomes.{Outcome}
 use Rattle.alg_mono.specs.Mono.{Monomial}
 use Rattle.alg_mono.specs.NumberedPolynomials.{Polynomial}
 use Rattle.alg_lines.specs.Lines.{line_at}
-use Rattle.alg_pairs.specs.Order.{pair_cmp}
 use Rattle.alg_pairs.specs.declared.pair.Pair.{Pair}
 use Rattle.alg_groebner.specs.Cancelling.{quotient, reduced}
-use Rattle.alg_groebner.specs.Leads.{lead, coprime}
 use Rattle.alg_groebner.specs.State.{State, End, Next, Goes, Ends}
-use Rattle.alg_groebner.specs.Choices.{pair_of, with_pair, with_pairs, reducer, first_reducible, zero_power, remainder_at}
-use Rattle.alg_groebner.specs.Moves.{with_line, stepped, dropped, without_pair, goal_outcome, goal_reduced, line_outcome, line_reduced, joined, next_taken, pair_outcome, pair_taken}
+use Rattle.alg_groebner.specs.Choices.{reducer, first_reducible, zero_power, remainder_at}
+use Rattle.alg_groebner.specs.Moves.{with_line, dropped, without_pair, goal_outcome, goal_reduced, line_outcome, line_reduced, joined, next_taken, pair_outcome, pair_taken}
 use Rattle.alg_groebner.specs.Machine.{made, counted, by_pairs, by_inputs, by_reducible, by_reducer, by_line, by_current, by_power, next}
-use Rattle.alg_groebner.specs.Sound.{IsThere, HasBoth, IsIn, AreMembers, step_count, IsSound}
+use Rattle.alg_groebner.specs.Sound.{IsThere, HasBoth, IsIn, AreMembers, IsSound}
 use Rattle.alg_groebner.specs.Runs.{work, current_left}
 use Rattle.alg_groebner.specs.declared.cancel.Cancelled.{Cancelled}
-use Rattle.alg_groebner.specs.declared.remainder.Remainder.{Remainder}
 use Rattle.alg_groebner.proofs.Adding.{is_less, not_less}
-use Rattle.alg_groebner.proofs.Scans.{there_number}
-
--- ---- lines that are added
-there_longer : (lines : List Polynomial) (p : Polynomial) (k : ℕ) → IsThere lines k → IsThere (lines ++ p ∷ []) k
-there_longer lines p k h =
-    let inside = (there_number lines k h).1 in
-    subst (λ (q : Polynomial). q ≢ []) (sym (get_or_append_left ([] ∷ lines) (p ∷ []) [] k (omega arith))) h
-
-both_longer : (lines : List Polynomial) (p : Polynomial) (x : Pair) → HasBoth lines x → HasBoth (lines ++ p ∷ []) x
-both_longer lines p x h = (there_longer lines p x.i h.0, there_longer lines p x.j h.1)
-
--- ---- pairs that are added
-of_both : (P : ℕ → Type 0) (a b : ℕ) → P a → P b → P (min a b) × P (max a b)
-of_both P a b p q = elim (cases_lt a b) [
-  | inl h ↦ (subst P (let e : a ≡ min a b = omega arith in e) p, subst P (let e : b ≡ max a b = omega arith in e) q)
-  | inr h ↦ (subst P (let e : b ≡ min a b = omega arith in e) q, subst P (let e : a ≡ max a b = omega arith in e) p)
-]
-
--- what holds of both lines of each pair still does where it holds of the lines of the new ones
-abbrev pub Both : (ℕ → Type 0) → Pair → Type 0
-Both P x = P x.i × P x.j
-
-pair_with : (P : ℕ → Type 0) (lines : List Polynomial) (i k : ℕ) (xs : List Pair) → P i → P k → All (Both P) xs →
-    All (Both P) (with_pair lines i k xs)
-unfolding with_pair pair_of
-pair_with P lines i k xs a b h =
-    elim (coprime (lead (line_at lines i)) (lead (line_at lines k))) as
-    (λ t. All (Both P) (cond t xs (insert_key pair_cmp xs (pair_of lines i k)))) [
-      | true ↦ h
-      | false ↦ All-insert_key pair_cmp (pair_of lines i k) (Both P) xs h (of_both P i k a b)
-    ]
-
-pairs_with : (P : ℕ → Type 0) (lines : List Polynomial) (k : ℕ) (is : List ℕ) (xs : List Pair) → P k → All P is →
-    All (Both P) xs → All (Both P) (with_pairs lines k is xs)
-pairs_with P lines k [] xs a b h = h
-pairs_with P lines k (i ∷ is) xs a b h =
-    pairs_with P lines k is (with_pair lines i k xs) a (All-tail P i is b)
-    (pair_with P lines i k xs (All-head P i is b) a h)
-
--- ---- members of the basis
-all_in : (ks : List ℕ) → All (IsIn ks) ks
-all_in [] = All-nil (IsIn [])
-all_in (k ∷ ks) =
-    All-cons (IsIn (k ∷ ks)) k ks (inl refl) (All-weaker (IsIn ks) (IsIn (k ∷ ks)) (λ i h. inr h) ks (all_in ks))
-
-in_more : (ks : List ℕ) (k i : ℕ) → IsIn ks i → IsIn (insert_key nat_cmp ks k) i
-in_more [] k i h = absurd h
-in_more (j ∷ ks) k i h =
-    elim (nat_cmp k j) as (λ o. IsIn (match_ordering o (k ∷ j ∷ ks) (j ∷ ks) (j ∷ insert_key nat_cmp ks k)) i) [
-      | Less ↦ inr h
-      | Equal ↦ h
-      | Greater ↦ elim h [ inl e ↦ inl e | inr t ↦ inr (in_more ks k i t) ]
-    ]
-
-in_new : (ks : List ℕ) (k : ℕ) → IsIn (insert_key nat_cmp ks k) k
-in_new [] k = inl refl
-in_new (j ∷ ks) k =
-    elim (nat_cmp k j) as (λ o. nat_cmp k j ≡ o →
-    IsIn (match_ordering o (k ∷ j ∷ ks) (j ∷ ks) (j ∷ insert_key nat_cmp ks k)) k) [
-      | Less ↦ λ e. inl refl
-      | Equal ↦ λ e. inl (sym (nat_cmp-IsAntisymmetric k j e))
-      | Greater ↦ λ e. inr (in_new ks k)
-    ] refl
-
--- ---- steps that are added
-one_more : (g : Remainder) (n : Monomial) (j : ℕ) (c : Cancelled) → length ((stepped g n j c).steps) ≡ length g.steps + 1
-unfolding stepped
-one_more g n j c = length-append g.steps ((record { a = c.a; b = c.b; n = n; j = j; d = c.d }) ∷ [])
-
-one_step : (gs : List Remainder) (r : ℕ) (n : Monomial) (j : ℕ) (c : Cancelled) →
-    step_count (slice_set gs r (stepped (remainder_at gs r) n j c)) ≤ step_count gs + 1
-one_step [] r n j c = omega arith
-one_step (g ∷ gs) zero n j c = front (length ((stepped g n j c).steps)) (length g.steps) (step_count gs) (one_more g n j c)
-  where
-    front : (a b k : ℕ) → a ≡ b + 1 → a + k ≤ b + k + 1
-    front a b k e = omega arith
-one_step (g ∷ gs) (suc r) n j c =
-    further (length g.steps) (step_count (slice_set gs r (stepped (remainder_at gs r) n j c))) (step_count gs) (one_step gs r n j c)
-  where
-    further : (c a b : ℕ) → a ≤ b + 1 → c + a ≤ c + b + 1
-    further c a b h = omega arith
+use Rattle.alg_groebner.proofs.Added.{there_longer, both_longer, Both, pairs_with, all_in, in_more, in_new, one_step}
 
 -- ---- the moves
 module _ (limit : ℕ) where
@@ -118,8 +33,10 @@ module _ (limit : ℕ) where
   Keeps st (Goes to) = Kept st to
   Keeps st (Ends e) = Unit {0}
 
-  line_kept : (st : State) (pairs : List Pair) (m : Monomial) (i : ℕ) (n : Monomial) (j : ℕ) (c : Cancelled) → IsSound limit st →
-      All (HasBoth st.lines) pairs → All (AreMembers st.basis) pairs → st.count < limit → Kept st (with_line (without_pair st pairs) m i n j c)
+  line_kept : (st : State) (pairs : List Pair) (m : Monomial) (i : ℕ) (n : Monomial) (j : ℕ) (c : Cancelled) → IsSound
+      limit st →
+      All (HasBoth st.lines) pairs → All (AreMembers st.basis) pairs → st.count < limit → Kept st
+      (with_line (without_pair st pairs) m i n j c)
   unfolding with_line
   line_kept st pairs m i n j c s h members due =
       let lines = s.lines in
@@ -135,8 +52,10 @@ module _ (limit : ℕ) where
           spent = let e = s.spent in omega arith;
           taken = s.taken;
           powers = s.powers;
-          basis = All-weaker (IsThere st.lines) (IsThere (st.lines ++ c.poly ∷ [])) (there_longer st.lines c.poly) st.basis s.basis;
-          pairs = All-weaker (HasBoth st.lines) (HasBoth (st.lines ++ c.poly ∷ [])) (both_longer st.lines c.poly) pairs h;
+          basis = All-weaker (IsThere st.lines) (IsThere (st.lines ++ c.poly ∷ [])) (there_longer st.lines c.poly)
+              st.basis s.basis;
+          pairs = All-weaker (HasBoth st.lines) (HasBoth (st.lines ++ c.poly ∷ [])) (both_longer st.lines c.poly)
+              pairs h;
           members = members;
           current = (omega arith, omega arith);
         },
@@ -169,7 +88,8 @@ module _ (limit : ℕ) where
     omega arith,
   )
 
-  joined_kept : (st : State) (k : ℕ) → IsSound limit st → st.current ≡ Some k → IsThere st.lines k → Kept st (joined st k)
+  joined_kept : (st : State) (k : ℕ) → IsSound limit st → st.current ≡ Some k → IsThere st.lines k → Kept st
+      (joined st k)
   joined_kept st k s e there = (
     record {
       hypotheses = s.hypotheses;
@@ -240,11 +160,13 @@ module _ (limit : ℕ) where
   counted_kept : (st to : State) (o : Outcome) → (st.count < limit → Kept st to) → Keeps st (counted limit st o to)
   counted_kept st to o k =
       elim (cases_lt st.count limit) [
-        | inl h ↦ subst (λ b. Keeps st (cond b (made o to) (Ends End.GaveUp))) (sym (is_less st.count limit h)) (made_kept st to o (k h))
+        | inl h ↦ subst (λ b. Keeps st (cond b (made o to) (Ends End.GaveUp))) (sym (is_less st.count limit h))
+            (made_kept st to o (k h))
         | inr h ↦ subst (λ b. Keeps st (cond b (made o to) (Ends End.GaveUp))) (sym (not_less st.count limit h)) tt
       ]
 
-  pairs_kept : (st : State) (xs : List Pair) → IsSound limit st → All (HasBoth st.lines) xs → All (AreMembers st.basis) xs →
+  pairs_kept : (st : State) (xs : List Pair) → IsSound limit st → All (HasBoth st.lines) xs → All
+      (AreMembers st.basis) xs →
       Keeps st (by_pairs limit st xs)
   pairs_kept st [] s h m = tt
   pairs_kept st (x ∷ rest) s h m =
@@ -255,25 +177,32 @@ module _ (limit : ℕ) where
   inputs_kept : (st : State) → IsSound limit st → st.current ≡ None → Keeps st (by_inputs limit st)
   inputs_kept st s e =
       elim (cases_lt st.taken st.given) [
-        | inl h ↦ subst (λ b. Keeps st (cond b (Goes (next_taken st)) (by_pairs limit st st.pairs))) (sym (is_less st.taken st.given h)) (taken_kept st s e h)
-        | inr h ↦ subst (λ b. Keeps st (cond b (Goes (next_taken st)) (by_pairs limit st st.pairs))) (sym (not_less st.taken st.given h)) (pairs_kept st st.pairs s s.pairs s.members)
+        | inl h ↦ subst (λ b. Keeps st (cond b (Goes (next_taken st)) (by_pairs limit st st.pairs)))
+            (sym (is_less st.taken st.given h)) (taken_kept st s e h)
+        | inr h ↦ subst (λ b. Keeps st (cond b (Goes (next_taken st)) (by_pairs limit st st.pairs)))
+            (sym (not_less st.taken st.given h)) (pairs_kept st st.pairs s s.pairs s.members)
       ]
 
-  reducible_kept : (st : State) (o : Option (ℕ × ℕ)) → IsSound limit st → st.current ≡ None → Keeps st (by_reducible limit st o)
+  reducible_kept : (st : State) (o : Option (ℕ × ℕ)) → IsSound limit st → st.current ≡ None → Keeps st
+      (by_reducible limit st o)
   reducible_kept st None s e = inputs_kept st s e
-  reducible_kept st (Some x) s e = counted_kept st (goal_reduced st x.0 x.1) (goal_outcome st x.0 x.1) (goal_kept st x.0 x.1 s)
+  reducible_kept st (Some x) s e = counted_kept st (goal_reduced st x.0 x.1) (goal_outcome st x.0 x.1)
+      (goal_kept st x.0 x.1 s)
 
   reducer_kept : (st : State) (k : ℕ) (o : Option ℕ) → IsSound limit st → st.current ≡ Some k → IsThere st.lines k →
       Keeps st (by_reducer limit st k o)
   reducer_kept st k None s e there = joined_kept st k s e there
   reducer_kept st k (Some j) s e there =
-      counted_kept st (line_reduced st k j) (line_outcome st k j) (λ due. line_kept st st.pairs _ k _ j _ s s.pairs s.members due)
+      counted_kept st (line_reduced st k j) (line_outcome st k j)
+      (λ due. line_kept st st.pairs _ k _ j _ s s.pairs s.members due)
 
-  line_rules_kept : (st : State) (k : ℕ) (p : Polynomial) → IsSound limit st → st.current ≡ Some k → line_at st.lines k ≡ p →
+  line_rules_kept : (st : State) (k : ℕ) (p : Polynomial) → IsSound limit st → st.current ≡ Some k → line_at st.lines
+      k ≡ p →
       Keeps st (by_line limit st k p)
   line_rules_kept st k [] s e l = dropped_kept st k s e
   line_rules_kept st k (f ∷ p) s e l =
-      reducer_kept st k (reducer st.lines st.basis (f ∷ p)) s e (subst (λ (q : Polynomial). q ≢ []) (sym l) (λ z. grind arith))
+      reducer_kept st k (reducer st.lines st.basis (f ∷ p)) s e
+      (subst (λ (q : Polynomial). q ≢ []) (sym l) (λ z. grind arith))
 
   current_kept : (st : State) (o : Option ℕ) → IsSound limit st → st.current ≡ o → Keeps st (by_current limit st o)
   current_kept st None s e = reducible_kept st (first_reducible st.lines st.basis 0 st.remainders) s e
@@ -287,5 +216,6 @@ module _ (limit : ℕ) where
   unfolding next
   next_kept st s = power_kept st (zero_power st.remainders) s
 
-  pub goes_kept : (st to : State) → IsSound limit st → next limit st ≡ Goes to → IsSound limit to × (work limit to < work limit st)
+  pub goes_kept : (st to : State) → IsSound limit st → next limit st ≡ Goes to → IsSound limit to ×
+      (work limit to < work limit st)
   goes_kept st to s e = subst (Keeps st) e (next_kept st s)

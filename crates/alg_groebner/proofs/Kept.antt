@@ -33,10 +33,17 @@ pub record IsFound {X : Type 0} (bs : List Bool) (xs : List X) (p last : ℕ) (d
   pub same : get_or (keep bs xs) place d ≡ get_or xs p d
   pub inside : place < length (keep bs xs)
 
-look_up : {X : Type 0} (bs : List Bool) (xs : List X) (p last : ℕ) (d : X) → p < length xs → At bs p → IsFound bs xs p last d
+look_up : {X : Type 0} (bs : List Bool) (xs : List X) (p last : ℕ) (d : X) → p < length xs → At bs p → IsFound bs xs p
+    last d
 look_up [] xs p last d h m = absurd (no m)
 look_up (b ∷ bs) [] p last d h m = absurd (omega arith)
-look_up (true ∷ bs) (x ∷ xs) zero last d h m = record { place = 0; number = omega arith; same = refl; inside = omega arith }
+look_up (true ∷ bs) (x ∷ xs) zero last d h m = record {
+  place = 0;
+  number = omega arith;
+  same = refl;
+  inside = omega
+      arith;
+}
 look_up (false ∷ bs) (x ∷ xs) zero last d h m = absurd (no m)
 look_up (true ∷ bs) (x ∷ xs) (suc p) last d h m =
     let r = look_up bs xs p (last + 1) d (omega arith) m in
@@ -57,7 +64,8 @@ renumber bs lines (suc k) o m =
     let high = o.1 in
     let r = look_up bs lines k 0 [] (omega arith) (subst (At bs) less m) in
     let at : number_of (numbers_after 0 bs) (suc k) ≡ suc r.place =
-    ap (λ i. get_or (numbers_after 0 bs) i 0) less ∙ (let n = r.number in let e : get_or (numbers_after 0 bs) k 0 ≡ suc r.place = omega arith in e) in
+    ap (λ i. get_or (numbers_after 0 bs) i 0) less ∙ (let n = r.number in let e : get_or (numbers_after 0 bs) k 0 ≡
+    suc r.place = omega arith in e) in
     let inside = r.inside in
     subst (λ n. IsOneOf (keep bs lines) n × (line_at (keep bs lines) n ≡ line_at lines (suc k))) (sym at)
     ((omega arith, omega arith), r.same)
@@ -67,7 +75,8 @@ keep_nothing : {X : Type 0} (bs : List Bool) → keep {X = X} bs [] ≡ []
 keep_nothing [] = refl
 keep_nothing (b ∷ bs) = refl
 
-keep_last : {X : Type 0} (bs : List Bool) (xs : List X) (x : X) (b : Bool) → length xs < length bs → get_or bs (length xs) false ≡ b →
+keep_last : {X : Type 0} (bs : List Bool) (xs : List X) (x : X) (b : Bool) → length xs < length bs → get_or bs
+    (length xs) false ≡ b →
     keep bs (xs ++ x ∷ []) ≡ keep bs xs ++ cond b (x ∷ []) []
 keep_last [] xs x b h e = absurd (omega arith)
 keep_last (true ∷ bs) [] x b h e = ap (λ zs. x ∷ zs) (keep_nothing bs) ∙ ap (λ c. cond c (x ∷ []) []) e
@@ -99,7 +108,8 @@ good_kept bs lines l new (g, made) a b =
       made ∙ same,
     )
 
-pub lines_kept : (bs : List Bool) (lines : List Polynomial) (p : ℕ) (ls : List Line) (all : List Polynomial) → p ≡ length lines →
+pub lines_kept : (bs : List Bool) (lines : List Polynomial) (p : ℕ) (ls : List Line) (all : List Polynomial) → p ≡
+    length lines →
     p + length ls ≤ length bs → AreLines lines ls all → Closed bs p ls →
     AreLines (keep bs lines) (kept_lines (numbers_after 0 bs) (drop p bs) ls) (keep bs all)
 lines_kept bs lines p [] all e h a c = ap (keep bs) a
@@ -108,17 +118,22 @@ lines_kept bs lines p (l ∷ ls) all e h a c =
     let longer = length-append lines (a.0 ∷ []) in
     let next : p + 1 ≡ length (lines ++ a.0 ∷ []) = omega arith in
     let rest = lines_kept bs (lines ++ a.0 ∷ []) (p + 1) ls all next (omega arith) a.2 c.1 in
-    let opened : kept_lines numbers (drop p bs) (l ∷ ls) ≡ kept_lines numbers (get_or bs p false ∷ drop (p + 1) bs) (l ∷ ls) =
+    let opened : kept_lines numbers (drop p bs) (l ∷ ls) ≡ kept_lines numbers (get_or bs p false ∷ drop (p + 1) bs)
+    (l ∷ ls) =
     at_drop_more (λ cs. kept_lines numbers cs (l ∷ ls)) bs p false (omega arith) in
-    let last = λ (b : Bool) (m : get_or bs p false ≡ b). keep_last bs lines a.0 b (omega arith) (ap (λ k. get_or bs k false) (sym e) ∙ m) in
+    let last = λ (b : Bool) (m : get_or bs p false ≡ b). keep_last bs lines a.0 b (omega arith)
+    (ap (λ k. get_or bs k false) (sym e) ∙ m) in
     subst (λ (ks : List Line). AreLines (keep bs lines) ks (keep bs all)) (sym opened)
-    (elim (get_or bs p false) as (λ b. get_or bs p false ≡ b → AreLines (keep bs lines) (kept_lines numbers (b ∷ drop (p + 1) bs) (l ∷ ls)) (keep bs all)) [
+    (elim (get_or bs p false) as (λ b. get_or bs p false ≡ b → AreLines (keep bs lines)
+    (kept_lines numbers (b ∷ drop (p + 1) bs) (l ∷ ls)) (keep bs all)) [
       | true ↦ λ m. (
         a.0,
         good_kept bs lines l a.0 a.1 ((c.0 m).0) ((c.0 m).1),
-        subst (λ (xs : List Polynomial). AreLines xs (kept_lines numbers (drop (p + 1) bs) ls) (keep bs all)) (last true m) rest,
+        subst (λ (xs : List Polynomial). AreLines xs (kept_lines numbers (drop (p + 1) bs) ls) (keep bs all))
+            (last true m) rest,
       )
-      | false ↦ λ m. subst (λ (xs : List Polynomial). AreLines xs (kept_lines numbers (drop (p + 1) bs) ls) (keep bs all))
+      | false ↦ λ m. subst (λ (xs : List Polynomial). AreLines xs (kept_lines numbers (drop (p + 1) bs) ls)
+          (keep bs all))
           (last false m ∙ Rattle.std.proofs.lemmas.List.append-nil (keep bs lines)) rest
     ] refl)
 
@@ -127,7 +142,8 @@ abbrev pub AllCited : List Bool → List GoalStep → Type 0
 AllCited bs [] = Unit {0}
 AllCited bs (s ∷ ss) = IsMarked bs s.j × AllCited bs ss
 
-pub steps_kept : (bs : List Bool) (all : List Polynomial) (g : Polynomial) (ss : List GoalStep) (h : Polynomial) → AreSteps all g ss h →
+pub steps_kept : (bs : List Bool) (all : List Polynomial) (g : Polynomial) (ss : List GoalStep) (h : Polynomial) →
+    AreSteps all g ss h →
     AllCited bs ss → AreSteps (keep bs all) g (map (renumbered_step (numbers_after 0 bs)) ss) h
 steps_kept bs all g [] h a c = a
 steps_kept bs all g (s ∷ ss) h a c =
@@ -180,7 +196,8 @@ abbrev pub Bounded : ℕ → List Line → Type 0
 Bounded p [] = Unit {0}
 Bounded p (l ∷ ls) = ((1 ≤ l.i) × (l.i ≤ p) × (1 ≤ l.j) × (l.j ≤ p)) × Bounded (p + 1) ls
 
-pub bounded : (lines : List Polynomial) (p : ℕ) (ls : List Line) (all : List Polynomial) → p ≡ length lines → AreLines lines ls all → Bounded p ls
+pub bounded : (lines : List Polynomial) (p : ℕ) (ls : List Line) (all : List Polynomial) → p ≡ length lines → AreLines
+    lines ls all → Bounded p ls
 bounded lines p [] all e a = tt
 bounded lines p (l ∷ ls) all e a =
     let i = a.1.0.first in
@@ -190,7 +207,8 @@ bounded lines p (l ∷ ls) all e a =
     let longer = length-append lines (a.0 ∷ []) in
     ((i.0, omega arith, j.0, omega arith), bounded (lines ++ a.0 ∷ []) (p + 1) ls all (omega arith) a.2)
 
-closed_more : (v bs : List Bool) (p q : ℕ) (ls : List Line) → p ≤ q → ((k : ℕ) → p ≤ k → At bs k → At v k) → ((k : ℕ) → At v k → At bs k) →
+closed_more : (v bs : List Bool) (p q : ℕ) (ls : List Line) → p ≤ q → ((k : ℕ) → p ≤ k → At bs k → At v k) →
+    ((k : ℕ) → At v k → At bs k) →
     Closed v q ls → Closed bs q ls
 closed_more v bs p q [] h f g c = tt
 closed_more v bs p q (l ∷ ls) h f g c = (
@@ -214,7 +232,8 @@ closed p (l ∷ ls) marks b h len =
       set_rises w (l.j - 1) (l.i - 1) (set_here v (l.i - 1) (omega arith)),
       set_here w (l.j - 1) (omega (arith, Rattle.std.proofs.lemmas.List.length-set v (l.i - 1) true)),
     ) in
-    let beyond = λ (k : ℕ) (o : p ≤ k). get_or-set_other w (l.j - 1) k true false (omega arith) ∙ get_or-set_other v (l.i - 1) k true false (omega arith) in
+    let beyond = λ (k : ℕ) (o : p ≤ k). get_or-set_other w (l.j - 1) k true false (omega arith) ∙ get_or-set_other v
+    (l.i - 1) k true false (omega arith) in
     elim (get_or v p false) as (λ t. get_or v p false ≡ t → Closed (cond t (mark w l.j) v) p (l ∷ ls)) [
       | true ↦ λ e. (
         λ m. marked,

@@ -29,7 +29,8 @@ pub leading_small : (p : Polynomial) (x : Monomial × ℤ) → slice_get p 0 ≡
 leading_small [] x e h = absurd (none_first x e)
 leading_small (y ∷ p) x e h =
     let same = first_of_list y x p e in
-    let some : y.1 ≢ pos 0 = λ z. subst (λ (c : ℤ). T (not (is_zero c))) z (first (not (is_zero y.1)) _ h.polynomial.canonical.no_none) in
+    let some : y.1 ≢ pos 0 = λ z. subst (λ (c : ℤ). T (not (is_zero c))) z
+    (first (not (is_zero y.1)) _ h.polynomial.canonical.no_none) in
     let small : unsigned_abs y.1 ≤ MAX = let b = h.bounded in omega (arith, norm-cons y p) in
     subst (λ (w : Monomial × ℤ). (w.1 ≡ y.1) × (w.1 ≢ pos 0) × (unsigned_abs w.1 ≤ MAX)) same (refl, some, small)
 
@@ -44,7 +45,8 @@ lead_small (y ∷ p) x e h =
 -- ---- which lead divides which
 fits_test : (d m : Monomial) → All (FitsIn m) d → divides d m ≡ true
 fits_test [] m h = refl
-fits_test (e ∷ d) m h = both (nat_le e.1 (exponent nat_cmp e.0 m)) (divides d m) (le_test e.1 (exponent nat_cmp e.0 m) (All-head (FitsIn m) e d h)) (fits_test d m (All-tail (FitsIn m) e d h))
+fits_test (e ∷ d) m h = both (nat_le e.1 (exponent nat_cmp e.0 m)) (divides d m)
+    (le_test e.1 (exponent nat_cmp e.0 m) (All-head (FitsIn m) e d h)) (fits_test d m (All-tail (FitsIn m) e d h))
   where
     le_test : (a b : ℕ) → a ≤ b → nat_le a b ≡ true
     le_test a b h = grind arith
@@ -55,7 +57,9 @@ fits_test (e ∷ d) m h = both (nat_le e.1 (exponent nat_cmp e.0 m)) (divides d 
 
 test_fits : (d m : Monomial) → divides d m ≡ true → All (FitsIn m) d
 test_fits [] m h = All-nil (FitsIn m)
-test_fits (e ∷ d) m h = All-cons (FitsIn m) e d (test_le e.1 (exponent nat_cmp e.0 m) (front (nat_le e.1 (exponent nat_cmp e.0 m)) (divides d m) h)) (test_fits d m (back (nat_le e.1 (exponent nat_cmp e.0 m)) (divides d m) h))
+test_fits (e ∷ d) m h = All-cons (FitsIn m) e d (test_le e.1 (exponent nat_cmp e.0 m)
+    (front (nat_le e.1 (exponent nat_cmp e.0 m)) (divides d m) h))
+    (test_fits d m (back (nat_le e.1 (exponent nat_cmp e.0 m)) (divides d m) h))
   where
     test_le : (a b : ℕ) → nat_le a b ≡ true → a ≤ b
     test_le a b h = grind arith
@@ -88,7 +92,8 @@ reduces_is (a ∷ q) (b ∷ p) x y r e f h t =
     let left = first_of_list a x q e in
     let right = first_of_list b y p f in
     same_answer r (divides a.0 b.0) (subst (λ (w : Monomial × ℤ). (r ≡ true) ↔ Divides nat_cmp w.0 b.0) (sym left)
-    (subst (λ (w : Monomial × ℤ). (r ≡ true) ↔ Divides nat_cmp x.0 w.0) (sym right) t)) (divides_says a.0 b.0 h.polynomial.monomials.0)
+    (subst (λ (w : Monomial × ℤ). (r ≡ true) ↔ Divides nat_cmp x.0 w.0) (sym right) t))
+    (divides_says a.0 b.0 h.polynomial.monomials.0)
 
 -- what reduces is not zero, nor is what it reduces, and its lead divides
 pub reduces_says : (q p : Polynomial) → reduces q p ≡ true → (q ≢ []) × (p ≢ [])

@@ -8,6 +8,7 @@ pub mod Adding
 pub mod Found
 pub mod Stepping
 pub mod Chosen
+pub mod Added
 pub mod Keeping
 pub mod Ending
 pub mod Determined

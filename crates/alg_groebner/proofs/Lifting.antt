@@ -18,15 +18,18 @@ pub quotient_there : (p q : Polynomial) (f g : Monomial) → f ≡ lead p → g 
     reduces q p ≡ true → Divides nat_cmp g f
 quotient_there p q f g fe ge c r =
     let divides = (reduces_says q p r).2 (subst (λ (x : Monomial). IsCanonical nat_cmp exponents x) ge c) in
-    subst (λ (x : Monomial). Divides nat_cmp x f) (sym ge) (subst (λ (x : Monomial). Divides nat_cmp (lead q) x) (sym fe) divides)
+    subst (λ (x : Monomial). Divides nat_cmp x f) (sym ge) (subst (λ (x : Monomial). Divides nat_cmp (lead q) x)
+    (sym fe) divides)
 
 -- both leads divide their least common multiple
-pub left_divides : (a b l d : Monomial) → l ≡ lcm nat_cmp a b → d ≡ a → IsCanonical nat_cmp exponents b → Divides nat_cmp d l
+pub left_divides : (a b l d : Monomial) → l ≡ lcm nat_cmp a b → d ≡ a → IsCanonical nat_cmp exponents b → Divides
+    nat_cmp d l
 left_divides a b l d le de c =
     subst (λ (x : Monomial). Divides nat_cmp x l) (sym de) (subst (λ (x : Monomial). Divides nat_cmp a x) (sym le)
     (λ k. let e = exponent-lcm nat_cmp_total nat_cmp-IsAntisymmetric k a b c in grind (arith, e)))
 
-pub right_divides : (a b l d : Monomial) → l ≡ lcm nat_cmp a b → d ≡ b → IsCanonical nat_cmp exponents b → Divides nat_cmp d l
+pub right_divides : (a b l d : Monomial) → l ≡ lcm nat_cmp a b → d ≡ b → IsCanonical nat_cmp exponents b → Divides
+    nat_cmp d l
 right_divides a b l d le de c =
     subst (λ (x : Monomial). Divides nat_cmp x l) (sym de) (subst (λ (x : Monomial). Divides nat_cmp b x) (sym le)
     (λ k. let e = exponent-lcm nat_cmp_total nat_cmp-IsAntisymmetric k a b c in grind (arith, e)))

@@ -27,5 +27,9 @@ pub step_pushed : (w : Work) (r : ℕ) (g : Remainder) (n : Monomial) (j : ℕ) 
 unfolding with_step stepped
 step_pushed w r g n j c steps h e more =
     let at = e ∙ get_or_default w.remainders r g (record { rest = []; steps = [] }) h in
-    (λ k. record w { remainders = slice_set w.remainders r (record { rest = c.poly; steps = more k }); count = w.count + 1 })
+    (λ k. record w {
+      remainders = slice_set w.remainders r (record { rest = c.poly; steps = more k });
+      count = w.count
+          + 1;
+    })
     ∙ (λ k. record w { remainders = slice_set w.remainders r (stepped (at k) n j c); count = w.count + 1 })

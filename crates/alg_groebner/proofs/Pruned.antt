@@ -19,13 +19,16 @@ pub marked_turn : (given at : ℕ) (made : List Line) (x : Line) (marks new firs
     x ≡ get_or made at x → marks ≡ mark_lines (given + (at + 1)) (drop (at + 1) made) first →
     new ≡ mark_line (given + at) x marks → new ≡ mark_lines (given + at) (drop at made) first
 marked_turn given at made x marks new first h e m n =
-    n ∙ ap (mark_line (given + at) x) (m ∙ ap (λ p. mark_lines p (drop (at + 1) made) first) (let q : given + (at + 1) ≡ given + at + 1 = omega arith in q))
+    n ∙ ap (mark_line (given + at) x) (m ∙ ap (λ p. mark_lines p (drop (at + 1) made) first)
+    (let q : given + (at + 1) ≡ given + at + 1 = omega arith in q))
     ∙ sym (turn (λ ls. mark_lines (given + at) ls first) made at x h e)
 
 -- a line that is kept, and one that is not
-module _ (numbers : List ℕ) (marks : List Bool) (made : List Line) (place at : ℕ) (x : Line) (inside : place < length marks) (here : at < length made) (is : x ≡ get_or made at x) where
+module _ (numbers : List ℕ) (marks : List Bool) (made : List Line) (place at : ℕ) (x : Line)
+    (inside : place < length marks) (here : at < length made) (is : x ≡ get_or made at x) where
   opened : (b : Bool) → get_or marks place false ≡ b →
-      kept_lines numbers (drop place marks) (drop at made) ≡ kept_lines numbers (b ∷ drop (place + 1) marks) (x ∷ drop (at + 1) made)
+      kept_lines numbers (drop place marks) (drop at made) ≡ kept_lines numbers (b ∷ drop (place + 1) marks)
+      (x ∷ drop (at + 1) made)
   opened b m =
       at_drop_more (λ bs. kept_lines numbers bs (drop at made)) marks place false inside
       ∙ ap (λ (c : Bool). kept_lines numbers (c ∷ drop (place + 1) marks) (drop at made)) m
@@ -37,10 +40,12 @@ module _ (numbers : List ℕ) (marks : List Bool) (made : List Line) (place at :
         line ≡ renumbered_line numbers x → new ++ kept_lines numbers (drop next marks) (drop (at + 1) made) ≡ all
     kept_turn m new line n e =
         (λ k. (n ∙ ap (λ l. out ++ l ∷ []) e) k ++ kept_lines numbers (drop (after k) marks) (drop (at + 1) made))
-        ∙ append_assoc out (renumbered_line numbers x ∷ []) (kept_lines numbers (drop (place + 1) marks) (drop (at + 1) made))
+        ∙ append_assoc out (renumbered_line numbers x ∷ []) (kept_lines numbers (drop (place + 1) marks)
+        (drop (at + 1) made))
         ∙ ap (λ ls. out ++ ls) (sym (opened true m)) ∙ before
 
-    pub left_turn : get_or marks place false ≡ false → out ++ kept_lines numbers (drop next marks) (drop (at + 1) made) ≡ all
+    pub left_turn : get_or marks place false ≡ false → out ++ kept_lines numbers (drop next marks)
+        (drop (at + 1) made) ≡ all
     left_turn m =
         ap (λ k. out ++ kept_lines numbers (drop k marks) (drop (at + 1) made)) after
         ∙ ap (λ ls. out ++ ls) (sym (opened false m)) ∙ before
@@ -60,12 +65,14 @@ length-mark_line place l marks =
       | false ↦ refl
     ]
 
-pub length-mark_lines : (place : ℕ) (ls : List Line) (marks : List Bool) → length (mark_lines place ls marks) ≡ length marks
+pub length-mark_lines : (place : ℕ) (ls : List Line) (marks : List Bool) → length (mark_lines place ls marks) ≡ length
+    marks
 length-mark_lines place [] marks = refl
 length-mark_lines place (l ∷ ls) marks =
     length-mark_line place l (mark_lines (place + 1) ls marks) ∙ length-mark_lines (place + 1) ls marks
 
-pub length-marks_of : (given : ℕ) (made : List Line) (steps : List GoalStep) → length (marks_of given made steps) ≡ given + length made
+pub length-marks_of : (given : ℕ) (made : List Line) (steps : List GoalStep) → length (marks_of given made steps) ≡
+    given + length made
 length-marks_of given made steps =
     let first = replicate given true in
     let rest = replicate (length made) false in
@@ -73,7 +80,8 @@ length-marks_of given made steps =
     ∙ length-append first rest ∙ (λ i. length-replicate given true i + length-replicate (length made) false i)
 
 -- ---- powers
-pub powers_turn : (g : Polynomial) (r n : ℕ) (out new all : List Remainder) (p : Polynomial) → r < n → p ≡ power_of g (r + 1) →
+pub powers_turn : (g : Polynomial) (r n : ℕ) (out new all : List Remainder) (p : Polynomial) → r < n → p ≡ power_of g
+    (r + 1) →
     new ≡ out ++ (record { rest = p; steps = [] }) ∷ [] → out ++ powers g (r + 1) (n - r) ≡ all →
     new ++ powers g (r + 1 + 1) (n - (r + 1)) ≡ all
 powers_turn g r n out new all p h e m i =
@@ -101,15 +109,18 @@ some_line [] h = absurd (omega arith)
 some_line (x ∷ xs) h = x
 
 -- ---- the whole certificate
-pub marks_are : (given : ℕ) (made here : List Line) (steps : List GoalStep) (n : ℕ) (first cited all : List Bool) → n ≡ length made →
+pub marks_are : (given : ℕ) (made here : List Line) (steps : List GoalStep) (n : ℕ) (first cited all : List Bool) → n
+    ≡ length made →
     first ≡ replicate given true ++ replicate n false → cited ≡ mark_steps steps first → here ≡ made →
     all ≡ mark_lines given here cited → all ≡ marks_of given made steps
 marks_are given made here steps n first cited all ne fe ce he ae =
     ae ∙ (λ k. mark_lines given (he k) (ce k))
     ∙ (λ k. mark_lines given made (mark_steps steps ((fe ∙ ap (λ m. replicate given true ++ replicate m false) ne) k)))
 
-pub certificate_is : (given : ℕ) (made : List Line) (steps : List GoalStep) (power : ℕ) (marks : List Bool) (numbers : List ℕ)
-    (lines : List Line) (renumbered : List GoalStep) → marks ≡ marks_of given made steps → numbers ≡ numbers_after 0 marks →
+pub certificate_is : (given : ℕ) (made : List Line) (steps : List GoalStep) (power : ℕ) (marks : List Bool)
+    (numbers : List ℕ)
+    (lines : List Line) (renumbered : List GoalStep) → marks ≡ marks_of given made steps → numbers ≡ numbers_after 0
+    marks →
     lines ≡ kept_lines numbers (drop given marks) made → renumbered ≡ map (renumbered_step numbers) steps →
     record { power = power; lines = lines; steps = renumbered } ≡ certificate_from given made steps power
 unfolding certificate_from

@@ -28,7 +28,8 @@ module _ {X : Type 0} (cmp : X → X → Ordering) (x : X) where
   after : (xs ys : List X) → All (λ y. cmp x y ≡ Greater) xs → insert_key cmp (xs ++ ys) x ≡ xs ++ insert_key cmp ys x
   after [] ys h = refl
   after (y ∷ xs) ys h =
-      ap (λ o. match_ordering o (x ∷ y ∷ xs ++ ys) (y ∷ xs ++ ys) (y ∷ insert_key cmp (xs ++ ys) x)) (All-head (λ y. cmp x y ≡ Greater) y xs h)
+      ap (λ o. match_ordering o (x ∷ y ∷ xs ++ ys) (y ∷ xs ++ ys) (y ∷ insert_key cmp (xs ++ ys) x))
+      (All-head (λ y. cmp x y ≡ Greater) y xs h)
       ∙ ap (λ zs. y ∷ zs) (after xs ys (All-tail (λ y. cmp x y ≡ Greater) y xs h))
 
   before : (xs ys : List X) → All (λ y. cmp x y ≡ Less) ys → insert_key cmp (xs ++ ys) x ≡ insert_key cmp xs x ++ ys
@@ -81,7 +82,8 @@ Queued lines q xs = (over : List Pair) × (xs ≡ q.pairs ++ over) × AreOver li
 some_over : (x : Pair) (over : List Pair) → true ≡ not (is_nothing (insert_key pair_cmp over x))
 some_over x [] = refl
 some_over x (y ∷ over) =
-    elim (pair_cmp x y) as (λ o. true ≡ not (is_nothing (match_ordering o (x ∷ y ∷ over) (y ∷ over) (y ∷ insert_key pair_cmp over x)))) [
+    elim (pair_cmp x y) as (λ o. true ≡ not (is_nothing (match_ordering o (x ∷ y ∷ over) (y ∷ over)
+    (y ∷ insert_key pair_cmp over x)))) [
       | Less ↦ refl
       | Equal ↦ refl
       | Greater ↦ refl
@@ -97,12 +99,14 @@ module _ (lines : List Polynomial) (q : Queue) (over : List Pair) (h : AreOver l
       (insert_key pair_cmp (q.pairs ++ over) pair)
   unfolding pair
   ordered_by true e =
-      let far : MAX_DEGREE < degree (lead_lcm b.poly c.poly) = test_less MAX_DEGREE (degree (lead_lcm b.poly c.poly)) e in (
+      let far : MAX_DEGREE < degree (lead_lcm b.poly c.poly) = test_less MAX_DEGREE (degree (lead_lcm b.poly c.poly))
+      e in (
         insert_key pair_cmp over pair,
         after pair_cmp pair q.pairs over (all_greater pair q.pairs far h.within),
         record {
           within = h.within;
-          beyond = All-insert_key pair_cmp pair (IsBeyond lines) over h.beyond (far, λ k. lead_lcm (first k) (second k));
+          beyond = All-insert_key pair_cmp pair (IsBeyond lines) over h.beyond
+              (far, λ k. lead_lcm (first k) (second k));
           flag = some_over pair over;
         },
       )
@@ -110,7 +114,8 @@ module _ (lines : List Polynomial) (q : Queue) (over : List Pair) (h : AreOver l
       test_less : (a b : ℕ) → nat_lt a b ≡ true → a < b
       test_less a b e = grind arith
   ordered_by false e =
-      let near : degree (lead_lcm b.poly c.poly) ≤ MAX_DEGREE = test_not_less MAX_DEGREE (degree (lead_lcm b.poly c.poly)) e in (
+      let near : degree (lead_lcm b.poly c.poly) ≤ MAX_DEGREE = test_not_less MAX_DEGREE
+      (degree (lead_lcm b.poly c.poly)) e in (
         over,
         before pair_cmp pair q.pairs over (all_less lines pair over near h.beyond),
         record {
@@ -184,7 +189,8 @@ module _ (lines : List Polynomial) (q : Queue) (over : List Pair) (h : AreOver l
   unfolding with_member with_pair
   member_queued =
       subst (λ (t : Bool). Queued lines
-      (cond (coprime (lead b.poly) (lead c.poly)) q (cond (nat_lt b.number c.number) (with_ordered b c q) (with_ordered c b q)))
+      (cond (coprime (lead b.poly) (lead c.poly)) q (cond (nat_lt b.number c.number) (with_ordered b c q)
+      (with_ordered c b q)))
       (cond t (q.pairs ++ over) (insert_key pair_cmp (q.pairs ++ over) (pair_of lines b.number c.number))))
       (λ k. coprime (lead (first k)) (lead (second k))) (tested (coprime (lead b.poly) (lead c.poly)))
 
@@ -195,14 +201,17 @@ pub members_queued : (lines : List Polynomial) (c : Member) (bs : List Member) (
 members_queued lines c [] q over h a l = (over, refl, h)
 members_queued lines c (b ∷ bs) q over h a l =
     let one = member_queued lines q over h b c (All-head (IsLine lines) b bs a) l in
-    subst (λ (xs : List Pair). Queued lines (with_members c bs (with_member b c q)) (with_pairs lines c.number (numbers bs) xs))
+    subst (λ (xs : List Pair). Queued lines (with_members c bs (with_member b c q))
+    (with_pairs lines c.number (numbers bs) xs))
     (sym one.1) (members_queued lines c bs (with_member b c q) one.0 one.2 (All-tail (IsLine lines) b bs a) l)
 
-pub numbers-insert : (bs : List Member) (c : Member) → insert_key nat_cmp (numbers bs) c.number ≡ numbers (insert_key member_cmp bs c)
+pub numbers-insert : (bs : List Member) (c : Member) → insert_key nat_cmp (numbers bs) c.number ≡ numbers
+    (insert_key member_cmp bs c)
 numbers-insert [] c = refl
 numbers-insert (b ∷ bs) c =
     elim (nat_cmp c.number b.number) as
-    (λ o. match_ordering o (c.number ∷ b.number ∷ numbers bs) (b.number ∷ numbers bs) (b.number ∷ insert_key nat_cmp (numbers bs) c.number)
+    (λ o. match_ordering o (c.number ∷ b.number ∷ numbers bs) (b.number ∷ numbers bs)
+    (b.number ∷ insert_key nat_cmp (numbers bs) c.number)
     ≡ numbers (match_ordering o (c ∷ b ∷ bs) (b ∷ bs) (b ∷ insert_key member_cmp bs c))) [
       | Less ↦ refl
       | Equal ↦ refl

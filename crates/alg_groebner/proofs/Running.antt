@@ -33,14 +33,16 @@ pub record Reaches (hyps : List Polynomial) (limit : ℕ) (first : State) (w : W
   pub sound : IsSound limit (shown w lines over)
   pub leads : (last : State) (e : End) → Runs limit (shown w lines over) last e → Runs limit first last e
 
-members_some : (lines : List Polynomial) (bs : List Member) → All (IsThere lines) (numbers bs) → All (IsLine lines) bs → All IsSomeMember bs
+members_some : (lines : List Polynomial) (bs : List Member) → All (IsThere lines) (numbers bs) → All (IsLine lines) bs
+    → All IsSomeMember bs
 members_some lines [] t h = All-nil IsSomeMember
 members_some lines (b ∷ bs) t h =
     All-cons IsSomeMember b bs
     (λ e. All-head (IsThere lines) b.number (numbers bs) t (sym (All-head (IsLine lines) b bs h) ∙ e))
     (members_some lines bs (All-tail (IsThere lines) b.number (numbers bs) t) (All-tail (IsLine lines) b bs h))
 
-pairs_have : (bs : List Member) (xs over : List Pair) → All (AreMembers (numbers bs)) (xs ++ over) → All (HasMembers bs) xs
+pairs_have : (bs : List Member) (xs over : List Pair) → All (AreMembers (numbers bs)) (xs ++ over) → All
+    (HasMembers bs) xs
 pairs_have bs [] over h = All-nil (HasMembers bs)
 pairs_have bs (x ∷ xs) over h =
     let both = All-head (AreMembers (numbers bs)) x (xs ++ over) h in
@@ -50,7 +52,8 @@ pairs_have bs (x ∷ xs) over h =
     is_some : (k : ℕ) → IsIn (numbers bs) k → IsSome (member_at bs k)
     is_some k m = let there = member_there bs k m in subst (λ (o : Option Member). IsSome o) there.1 refl
 
-pub workable : (hyps : List Polynomial) (limit : ℕ) (first : State) (w : Work) → Reaches hyps limit first w → IsWorkable hyps limit w
+pub workable : (hyps : List Polynomial) (limit : ℕ) (first : State) (w : Work) → Reaches hyps limit first w →
+    IsWorkable hyps limit w
 unfolding shown
 workable hyps limit first w h = record {
   given = h.agrees.given;
@@ -76,7 +79,8 @@ left_is : (o : Option Member) → member_left o ≡ current_left (option_map (λ
 left_is None = refl
 left_is (Some b) = refl
 
-work_is : (limit : ℕ) (w : Work) (lines : List Polynomial) (over : List Pair) → work_left limit w ≡ work limit (shown w lines over)
+work_is : (limit : ℕ) (w : Work) (lines : List Polynomial) (over : List Pair) → work_left limit w ≡ work limit
+    (shown w lines over)
 unfolding shown
 work_is limit w lines over = ap (λ n. 2 * (limit - w.count) + 2 * (w.given - w.taken) + n) (left_is w.current)
 
@@ -116,7 +120,8 @@ module _ (hyps : List Polynomial) (limit : ℕ) (first : State) (w : Work) (h : 
   ends_run : (e : End) → work_next hyps limit w ≡ Stops e → Runs limit first here e
   ends_run e s = h.leads here e (now (subst (λ (x : WorkNext). Simulates hyps x (next limit here)) s sim))
 
-  pub ends : (e : Ending) (new : Work) → Steps (work_next hyps limit w) (Ok (Some e)) w new → RunsAs limit first (Ok e) new
+  pub ends : (e : Ending) (new : Work) → Steps (work_next hyps limit w) (Ok (Some e)) w new → RunsAs limit first
+      (Ok e) new
   unfolding shown
   ends (Proved r) new s = (
     here,
@@ -128,7 +133,8 @@ module _ (hyps : List Polynomial) (limit : ℕ) (first : State) (w : Work) (h : 
   ends (NoneUpTo r) new s = (here, ends_run (state.NoneUpTo r) s)
   ends GaveUp new s = (here, ends_run state.GaveUp s)
 
-  pub refused : (e : Overrun) (new : Work) → Steps (work_next hyps limit w) (Err e) w new → RunsAs limit first (Err e) new
+  pub refused : (e : Overrun) (new : Work) → Steps (work_next hyps limit w) (Err e) w new → RunsAs limit first (Err e)
+      new
   refused Range new s = (here, ends_run state.Range s)
   refused Degree new s = (here, ends_run state.Degree s)
   refused NoMemory new s = tt

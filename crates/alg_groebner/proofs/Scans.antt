@@ -38,7 +38,8 @@ module _ {X : Type 0} (cmp : X → X → Ordering) where
       ≡ match_ordering o (k ∷ x ∷ drop (n + 1) xs) (x ∷ drop (n + 1) xs) (x ∷ insert_key cmp (drop (n + 1) xs) k)
   here_or xs k x n o h e c =
       turn (λ ys. insert_key cmp ys k) xs n x h e
-      ∙ ap (λ o. match_ordering o (k ∷ x ∷ drop (n + 1) xs) (x ∷ drop (n + 1) xs) (x ∷ insert_key cmp (drop (n + 1) xs) k)) c
+      ∙ ap (λ o. match_ordering o (k ∷ x ∷ drop (n + 1) xs) (x ∷ drop (n + 1) xs)
+      (x ∷ insert_key cmp (drop (n + 1) xs) k)) c
 
   pub further : (xs : List X) (k x : X) (n : ℕ) → n < length xs → x ≡ get_or xs n x → cmp k x ≡ Greater →
       Decides xs k n → Decides xs k (n + 1)
@@ -46,19 +47,23 @@ module _ {X : Type 0} (cmp : X → X → Ordering) where
     omega arith,
     d.1 ∙ ap (λ z. take n xs ++ z) (here_or xs k x n Greater h e c)
         ∙ sym (append_assoc (take n xs) (x ∷ []) (insert_key cmp (drop (n + 1) xs) k))
-        ∙ ap (λ z. z ++ insert_key cmp (drop (n + 1) xs) k) (sym (take_more xs n x h ∙ ap (λ z. take n xs ++ z ∷ []) (sym e))),
+        ∙ ap (λ z. z ++ insert_key cmp (drop (n + 1) xs) k) (sym
+        (take_more xs n x h ∙ ap (λ z. take n xs ++ z ∷ []) (sym e))),
   )
 
   pub there : (xs : List X) (k x : X) (n : ℕ) → n < length xs → x ≡ get_or xs n x → cmp k x ≡ Equal → Decides xs k n →
       xs ≡ insert_key cmp xs k
   there xs k x n h e c d =
-      sym (d.1 ∙ ap (λ z. take n xs ++ z) (here_or xs k x n Equal h e c ∙ sym (turn (λ ys. ys) xs n x h e)) ∙ take-append-drop n xs)
+      sym (d.1 ∙ ap (λ z. take n xs ++ z) (here_or xs k x n Equal h e c ∙ sym (turn (λ ys. ys) xs n x h e)) ∙
+      take-append-drop n xs)
 
   pub here : (xs : List X) (k x : X) (n : ℕ) → n < length xs → x ≡ get_or xs n x → cmp k x ≡ Less → Decides xs k n →
       insert xs n k ≡ insert_key cmp xs k
   here xs k x n h e c d =
-      sym (d.1 ∙ ap (λ z. take n xs ++ z) (here_or xs k x n Less h e c ∙ ap (λ z. k ∷ z) (sym (turn (λ ys. ys) xs n x h e))))
+      sym (d.1 ∙ ap (λ z. take n xs ++ z) (here_or xs k x n Less h e c ∙ ap (λ z. k ∷ z)
+      (sym (turn (λ ys. ys) xs n x h e))))
 
   pub last : (xs : List X) (k : X) (n : ℕ) → length xs ≤ n → Decides xs k n → insert xs n k ≡ insert_key cmp xs k
   last xs k n h d =
-      sym (d.1 ∙ (λ i. take n xs ++ insert_key cmp (at_drop_all (λ ys. ys) xs n h i) k) ∙ (λ i. take n xs ++ k ∷ sym (at_drop_all (λ ys. ys) xs n h) i))
+      sym (d.1 ∙ (λ i. take n xs ++ insert_key cmp (at_drop_all (λ ys. ys) xs n h i) k) ∙
+      (λ i. take n xs ++ k ∷ sym (at_drop_all (λ ys. ys) xs n h) i))

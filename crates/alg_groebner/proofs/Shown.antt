@@ -61,15 +61,18 @@ pub record Agrees (hyps : List Polynomial) (w : Work) (lines : List Polynomial) 
   pub queue : AreOver lines w.queue over
 
 -- ---- one more line
-pub at_longer : (lines : List Polynomial) (p : Polynomial) (k : ℕ) → IsNumber lines k → line_at lines k ≡ line_at (lines ++ p ∷ []) k
+pub at_longer : (lines : List Polynomial) (p : Polynomial) (k : ℕ) → IsNumber lines k → line_at lines k ≡ line_at
+    (lines ++ p ∷ []) k
 at_longer lines p k h = let high = h.1 in sym (get_or_append_left ([] ∷ lines) (p ∷ []) [] k (omega arith))
 
-last_of : (lines : List Polynomial) (p : Polynomial) (n : ℕ) → n ≡ length lines → p ≡ slice_index_or (lines ++ p ∷ []) n []
+last_of : (lines : List Polynomial) (p : Polynomial) (n : ℕ) → n ≡ length lines → p ≡ slice_index_or (lines ++ p ∷ [])
+    n []
 last_of [] p n e = ap (λ k. slice_index_or (p ∷ []) k []) (sym e)
 last_of (q ∷ lines) p zero e = absurd (omega arith)
 last_of (q ∷ lines) p (suc n) e = last_of lines p n (omega arith)
 
-pub at_last : (lines : List Polynomial) (p : Polynomial) (n : ℕ) → n ≡ length lines + 1 → p ≡ line_at (lines ++ p ∷ []) n
+pub at_last : (lines : List Polynomial) (p : Polynomial) (n : ℕ) → n ≡ length lines + 1 → p ≡ line_at
+    (lines ++ p ∷ []) n
 at_last lines p zero e = absurd (omega arith)
 at_last lines p (suc n) e = last_of lines p n (omega arith)
 
@@ -97,7 +100,8 @@ found_step : (r : ℕ) (o : Option Member) (first : Option ℕ) (a : Option (ℕ
 found_step r None first a b f e = ap (λ x. found_at r x a) f ∙ e
 found_step r (Some m) first a b f e = ap (λ x. found_at r x a) f
 
-pub reducible_same : (lines : List Polynomial) (bs : List Member) (r : ℕ) (gs : List Remainder) → All (IsLine lines) bs →
+pub reducible_same : (lines : List Polynomial) (bs : List Member) (r : ℕ) (gs : List Remainder) → All (IsLine lines)
+    bs →
     first_reducible lines (numbers bs) r gs ≡ option_map numbered (member_reducible bs r gs)
 reducible_same lines bs r [] h = refl
 reducible_same lines bs r (g ∷ gs) h =
@@ -106,7 +110,8 @@ reducible_same lines bs r (g ∷ gs) h =
     (reducer_same lines bs g.rest h) (reducible_same lines bs (r + 1) gs h)
 
 -- a number of the basis has its line
-pub member_there : (bs : List Member) (k : ℕ) → IsIn (numbers bs) k → (b : Member) × (Some b ≡ member_at bs k) × (b.number ≡ k)
+pub member_there : (bs : List Member) (k : ℕ) → IsIn (numbers bs) k → (b : Member) × (Some b ≡ member_at bs k) ×
+    (b.number ≡ k)
 member_there [] k h = absurd h
 member_there (b ∷ bs) k h =
     elim (nat_eq b.number k) as (λ t. nat_eq b.number k ≡ t →

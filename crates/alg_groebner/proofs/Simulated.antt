@@ -76,8 +76,10 @@ module _ (hyps : List Polynomial) (limit : ℕ) (w : Work) (lines : List Polynom
       (beyond_longer p xs (All-tail (HasBoth lines) x xs t) (All-tail (IsBeyond lines) x xs h))
 
   -- a new line
-  pub made_shows : (q : Queue) → AreOver lines q over → All (HasBoth lines) over → (m : Monomial) (i : ℕ) (n : Monomial) (j : ℕ) (c : Cancelled) →
-      Shows hyps (with_made (record w { queue = q }) m i n j c) (with_line (without_pair st (q.pairs ++ over)) m i n j c)
+  pub made_shows : (q : Queue) → AreOver lines q over → All (HasBoth lines) over → (m : Monomial) (i : ℕ)
+      (n : Monomial) (j : ℕ) (c : Cancelled) →
+      Shows hyps (with_made (record w { queue = q }) m i n j c)
+      (with_line (without_pair st (q.pairs ++ over)) m i n j c)
   unfolding shown with_made with_line
   made_shows q h t m i n j c =
       let total = sound.lines in
@@ -117,34 +119,46 @@ module _ (hyps : List Polynomial) (limit : ℕ) (w : Work) (lines : List Polynom
       let second = member_there w.basis x.j m.1 in
       let b = first.0 in
       let c = second.0 in
-      let b_is : b.poly ≡ line_at lines x.i = found_holds (IsLine lines) _ w.basis b agrees.basis first.1 ∙ ap (line_at lines) first.2 in
-      let c_is : c.poly ≡ line_at lines x.j = found_holds (IsLine lines) _ w.basis c agrees.basis second.1 ∙ ap (line_at lines) second.2 in
+      let b_is : b.poly ≡ line_at lines x.i = found_holds (IsLine lines) _ w.basis b agrees.basis first.1 ∙ ap
+      (line_at lines) first.2 in
+      let c_is : c.poly ≡ line_at lines x.j = found_holds (IsLine lines) _ w.basis c agrees.basis second.1 ∙ ap
+      (line_at lines) second.2 in
       let q : Queue = record { pairs = rest; beyond = w.queue.beyond } in
       let over_is = agrees.queue in
       let queue : AreOver lines q over = record { within = near; beyond = over_is.beyond; flag = over_is.flag } in
-      subst (λ (o : Option Member). Simulates hyps (by_members limit w rest o (member_at w.basis x.j)) (by_pairs limit st (x ∷ rest ++ over))) first.1
-      (subst (λ (o : Option Member). Simulates hyps (by_members limit w rest (Some b) o) (by_pairs limit st (x ∷ rest ++ over))) second.1
-      (subst (λ (o : Outcome). Simulates hyps (by_members limit w rest (Some b) (Some c)) (counted limit st o (pair_taken (without_pair st (rest ++ over)) x.i x.j)))
+      subst (λ (o : Option Member). Simulates hyps (by_members limit w rest o (member_at w.basis x.j))
+      (by_pairs limit st (x ∷ rest ++ over))) first.1
+      (subst (λ (o : Option Member). Simulates hyps (by_members limit w rest (Some b) o)
+      (by_pairs limit st (x ∷ rest ++ over))) second.1
+      (subst (λ (o : Outcome). Simulates hyps (by_members limit w rest (Some b) (Some c))
+      (counted limit st o (pair_taken (without_pair st (rest ++ over)) x.i x.j)))
       (λ k. s_outcome (b_is k) (c_is k))
       (counted_sim (s_outcome b.poly c.poly) _ (pair_taken (without_pair st (rest ++ over)) x.i x.j)
-      (λ fine. subst (λ (to : State). Shows hyps (work_pair_taken (record w { queue = q }) b c) to) (λ k. with_line (without_pair st (rest ++ over)) (left_lift (b_is k) (c_is k)) (first.2 k) (right_lift (b_is k) (c_is k)) (second.2 k) (s_polynomial (b_is k) (c_is k)))
-      (made_shows q queue over_there (left_lift b.poly c.poly) b.number (right_lift b.poly c.poly) c.number (s_polynomial b.poly c.poly))))))
+      (λ fine. subst (λ (to : State). Shows hyps (work_pair_taken (record w { queue = q }) b c) to)
+      (λ k. with_line (without_pair st (rest ++ over)) (left_lift (b_is k) (c_is k)) (first.2 k)
+      (right_lift (b_is k) (c_is k)) (second.2 k) (s_polynomial (b_is k) (c_is k)))
+      (made_shows q queue over_there (left_lift b.poly c.poly) b.number (right_lift b.poly c.poly) c.number
+      (s_polynomial b.poly c.poly))))))
 
   pub over_sim : (xs : List Pair) → All (IsBeyond lines) xs → w.queue.beyond ≡ not (is_nothing xs) →
       Simulates hyps (work_by_pairs limit w []) (by_pairs limit st xs)
   unfolding shown
   over_sim [] h flag =
-      subst (λ b. Simulates hyps (cond b (work_counted limit w Outcome.Degree w) (Stops (End.NoneUpTo (length w.remainders))))
+      subst (λ b. Simulates hyps (cond b (work_counted limit w Outcome.Degree w)
+      (Stops (End.NoneUpTo (length w.remainders))))
       (Ends (End.NoneUpTo (length w.remainders)))) (sym flag) refl
   over_sim (x ∷ xs) h flag =
       let is = All-head (IsBeyond lines) x xs h in
       let far : MAX_DEGREE < degree (lead_lcm (line_at lines x.i) (line_at lines x.j)) =
       subst (λ (m : Monomial). MAX_DEGREE < degree m) is.1 is.0 in
       let outcome : Outcome.Degree ≡ pair_outcome st x.i x.j =
-      ap (λ b. cond b Outcome.Degree (cancel_outcome (left_lift (line_at lines x.i) (line_at lines x.j)) (line_at lines x.i) (right_lift (line_at lines x.i) (line_at lines x.j)) (line_at lines x.j)))
+      ap (λ b. cond b Outcome.Degree (cancel_outcome (left_lift (line_at lines x.i) (line_at lines x.j))
+      (line_at lines x.i) (right_lift (line_at lines x.i) (line_at lines x.j)) (line_at lines x.j)))
       (sym (is_less MAX_DEGREE (degree (lead_lcm (line_at lines x.i) (line_at lines x.j))) far)) in
-      subst (λ b. Simulates hyps (cond b (work_counted limit w Outcome.Degree w) (Stops (End.NoneUpTo (length w.remainders)))) (by_pairs limit st (x ∷ xs))) (sym flag)
-      (subst (λ (o : Outcome). Simulates hyps (work_counted limit w Outcome.Degree w) (counted limit st o (pair_taken (without_pair st xs) x.i x.j))) outcome
+      subst (λ b. Simulates hyps (cond b (work_counted limit w Outcome.Degree w)
+      (Stops (End.NoneUpTo (length w.remainders)))) (by_pairs limit st (x ∷ xs))) (sym flag)
+      (subst (λ (o : Outcome). Simulates hyps (work_counted limit w Outcome.Degree w)
+      (counted limit st o (pair_taken (without_pair st xs) x.i x.j))) outcome
       (counted_sim Outcome.Degree w (pair_taken (without_pair st xs) x.i x.j) (λ e. absurd (no e))))
     where
       no : Outcome.Degree ≡ Outcome.Fine → ⊥

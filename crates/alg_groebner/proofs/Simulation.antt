@@ -25,7 +25,8 @@ use Rattle.alg_groebner.proofs.Shown.{numbers, shown, IsLine, IsWithin, Agrees, 
 use Rattle.alg_groebner.proofs.Simulated.{Shows, Simulates, counted_sim, made_shows, over_there, pair_sim, over_sim}
 
 -- the member of a remainder's choice is a basis line
-pub chosen_line : (P : Member → Type 0) (basis : List Member) (gs : List Remainder) (n r : ℕ) (b : Member) → All P basis →
+pub chosen_line : (P : Member → Type 0) (basis : List Member) (gs : List Remainder) (n r : ℕ) (b : Member) → All P
+    basis →
     member_reducible basis n gs ≡ Some (r, b) → P b
 chosen_line P basis [] n r b a e = absurd (none_some (r, b) e)
 chosen_line P basis (g ∷ gs) n r b a e =
@@ -35,7 +36,8 @@ chosen_line P basis (g ∷ gs) n r b a e =
       | None ↦ λ t s. chosen_line P basis gs (n + 1) r b a s
     ] refl e
   where
-    here : (k : Member) → member_reducer basis g.rest ≡ Some k → ◌≡◌ {A = Option (ℕ × Member)} (Some (n, k)) (Some (r, b)) → P b
+    here : (k : Member) → member_reducer basis g.rest ≡ Some k → ◌≡◌ {A = Option (ℕ × Member)} (Some (n, k))
+        (Some (r, b)) → P b
     here k t q =
         let first : ℕ × Member = (n, k) in
         let second : ℕ × Member = (r, b) in
@@ -48,7 +50,8 @@ module _ (hyps : List Polynomial) (limit : ℕ) (w : Work) (lines : List Polynom
   st = shown w lines over
 
   -- ---- rules 6 to 8
-  pairs_sim : (xs : List Pair) → xs ≡ w.queue.pairs → Simulates hyps (work_by_pairs limit w xs) (by_pairs limit st (xs ++ over))
+  pairs_sim : (xs : List Pair) → xs ≡ w.queue.pairs → Simulates hyps (work_by_pairs limit w xs)
+      (by_pairs limit st (xs ++ over))
   unfolding shown
   pairs_sim [] e = over_sim hyps limit w lines over agrees sound over agrees.queue.beyond agrees.queue.flag
   pairs_sim (x ∷ rest) e =
@@ -61,7 +64,8 @@ module _ (hyps : List Polynomial) (limit : ℕ) (w : Work) (lines : List Polynom
   unfolding shown
   inputs_sim =
       elim (nat_lt w.taken w.given) as (λ b. nat_lt w.taken w.given ≡ b →
-      Simulates hyps (cond b (Rattle.alg_groebner.specs.Working.GoesOn (work_taken w hyps)) (work_by_pairs limit w w.queue.pairs))
+      Simulates hyps (cond b (Rattle.alg_groebner.specs.Working.GoesOn (work_taken w hyps))
+      (work_by_pairs limit w w.queue.pairs))
       (cond b (Goes (next_taken st)) (by_pairs limit st st.pairs))) [
         | true ↦ λ e. (
           next_taken st,
@@ -92,17 +96,26 @@ module _ (hyps : List Polynomial) (limit : ℕ) (w : Work) (lines : List Polynom
   goal_sim r b e =
       let is : b.poly ≡ line_at lines b.number = chosen_line (IsLine lines) w.basis w.remainders 0 r b agrees.basis e in
       let g = remainder_at w.remainders r in
-      subst (λ (o : Outcome). Simulates hyps (work_by_reducible hyps limit w (Some (r, b))) (counted limit st o (goal_reduced st r b.number)))
+      subst (λ (o : Outcome). Simulates hyps (work_by_reducible hyps limit w (Some (r, b)))
+      (counted limit st o (goal_reduced st r b.number)))
       (λ k. reduce_outcome g.rest (is k))
-      (counted_sim hyps limit w lines over agrees sound (reduce_outcome g.rest b.poly) (work_goal_reduced w r b) (goal_reduced st r b.number)
+      (counted_sim hyps limit w lines over agrees sound (reduce_outcome g.rest b.poly) (work_goal_reduced w r b)
+      (goal_reduced st r b.number)
       (λ fine. (
         lines,
         over,
         (λ k. record st {
-          remainders = Rattle.std.specs.Prelude.slice_set w.remainders r (stepped g (quotient g.rest (sym is k)) b.number (reduced g.rest (sym is k)));
+          remainders = Rattle.std.specs.Prelude.slice_set w.remainders r
+              (stepped g (quotient g.rest (sym is k)) b.number (reduced g.rest (sym is k)));
           count = w.count + 1;
         }),
-        record { given = agrees.given; hypotheses = agrees.hypotheses; basis = agrees.basis; current = agrees.current; queue = agrees.queue },
+        record {
+          given = agrees.given;
+          hypotheses = agrees.hypotheses;
+          basis = agrees.basis;
+          current = agrees.current;
+          queue = agrees.queue;
+        },
       )))
 
   reducible_sim : (o : Option (ℕ × Member)) → member_reducible w.basis 0 w.remainders ≡ o →
@@ -117,12 +130,15 @@ module _ (hyps : List Polynomial) (limit : ℕ) (w : Work) (lines : List Polynom
     unfolding shown
     line_sim b e =
         let is : b.poly ≡ line_at lines b.number = found_holds (IsLine lines) _ w.basis b agrees.basis (sym e) in
-        subst (λ (o : Outcome). Simulates hyps (work_by_reducer limit w c (Some b)) (counted limit st o (line_reduced st c.number b.number)))
+        subst (λ (o : Outcome). Simulates hyps (work_by_reducer limit w c (Some b))
+        (counted limit st o (line_reduced st c.number b.number)))
         (λ k. reduce_outcome (line k) (is k))
-        (counted_sim hyps limit w lines over agrees sound (reduce_outcome c.poly b.poly) (work_line_reduced w c b) (line_reduced st c.number b.number)
+        (counted_sim hyps limit w lines over agrees sound (reduce_outcome c.poly b.poly) (work_line_reduced w c b)
+        (line_reduced st c.number b.number)
         (λ fine. subst (λ (to : State). Shows hyps (work_line_reduced w c b) to)
         (λ k. with_line st [] c.number (quotient (line k) (is k)) b.number (reduced (line k) (is k)))
-        (made_shows hyps limit w lines over agrees sound w.queue agrees.queue (over_there hyps limit w lines over agrees sound)
+        (made_shows hyps limit w lines over agrees sound w.queue agrees.queue
+        (over_there hyps limit w lines over agrees sound)
         [] c.number (quotient c.poly b.poly) b.number (reduced c.poly b.poly))))
 
     join_sim : Simulates hyps (work_by_reducer limit w c None) (by_reducer limit st c.number None)
@@ -150,7 +166,8 @@ module _ (hyps : List Polynomial) (limit : ℕ) (w : Work) (lines : List Polynom
     reducer_sim None e = join_sim
     reducer_sim (Some b) e = line_sim b e
 
-    line_rules_sim : (p : Polynomial) → c.poly ≡ p → Simulates hyps (work_by_line limit w c p) (by_line limit st c.number p)
+    line_rules_sim : (p : Polynomial) → c.poly ≡ p → Simulates hyps (work_by_line limit w c p)
+        (by_line limit st c.number p)
     unfolding shown
     line_rules_sim [] e = (
       record st { current = None },
@@ -169,16 +186,19 @@ module _ (hyps : List Polynomial) (limit : ℕ) (w : Work) (lines : List Polynom
       ),
     )
     line_rules_sim (f ∷ p) e =
-        let chosen : reducer lines (numbers w.basis) (f ∷ p) ≡ option_map (λ b. b.number) (member_reducer w.basis (f ∷ p)) =
+        let chosen : reducer lines (numbers w.basis) (f ∷ p) ≡ option_map (λ b. b.number)
+        (member_reducer w.basis (f ∷ p)) =
         reducer_same lines w.basis (f ∷ p) agrees.basis in
-        subst (λ (o : Option ℕ). Simulates hyps (work_by_reducer limit w c (member_reducer w.basis (f ∷ p))) (by_reducer limit st c.number o)) (sym chosen)
+        subst (λ (o : Option ℕ). Simulates hyps (work_by_reducer limit w c (member_reducer w.basis (f ∷ p)))
+        (by_reducer limit st c.number o)) (sym chosen)
         (reducer_sim (member_reducer w.basis (f ∷ p)) (ap (member_reducer w.basis) e))
 
   current_sim : (o : Option Member) → w.current ≡ o → IfSome o (IsLine lines) →
       Simulates hyps (work_by_current hyps limit w o) (by_current limit st (option_map (λ b. b.number) o))
   unfolding shown
   current_sim None e a =
-      subst (λ (o : Option (ℕ × ℕ)). Simulates hyps (work_by_reducible hyps limit w (member_reducible w.basis 0 w.remainders)) (by_reducible limit st o))
+      subst (λ (o : Option (ℕ × ℕ)). Simulates hyps (work_by_reducible hyps limit w
+      (member_reducible w.basis 0 w.remainders)) (by_reducible limit st o))
       (sym (reducible_same lines w.basis 0 w.remainders agrees.basis))
       (reducible_sim (member_reducible w.basis 0 w.remainders) refl)
   current_sim (Some c) e a =

@@ -29,7 +29,8 @@ module _ (limit : ℕ) (w : Work) (due : w.count < limit) where
   counted_goes : (o : Outcome) (to new : Work) → o ≡ Outcome.Fine → new ≡ to → work_counted limit w o to ≡ GoesOn new
   counted_goes o to new fine e = counted_is o to ∙ ap (λ x. work_made x to) fine ∙ ap GoesOn (sym e)
 
-  counted_stops : (o : Outcome) (to old new : Work) (e : Overrun) → Tells e o → Steps (work_counted limit w o to) (Err e) old new
+  counted_stops : (o : Outcome) (to old new : Work) (e : Overrun) → Tells e o → Steps (work_counted limit w o to)
+      (Err e) old new
   counted_stops o to old new Range t = counted_is o to ∙ ap (λ x. work_made x to) t
   counted_stops o to old new Degree t = counted_is o to ∙ ap (λ x. work_made x to) t
   counted_stops o to old new NoMemory t = tt
@@ -44,7 +45,8 @@ module _ (limit : ℕ) (w : Work) (due : w.count < limit) where
         ap (work_by_reducible hyps limit w) (sym chosen)
         ∙ counted_goes (reduce_outcome (remainder_at w.remainders r).rest b.poly) (work_goal_reduced w r b) new
         ((λ i. reduce_outcome (sym at i).rest b.poly) ∙ fine)
-        (is ∙ (λ i. with_step w r (ne i) b.number (ce i)) ∙ (λ i. with_step w r (quotient (at i).rest b.poly) b.number (reduced (at i).rest b.poly)))
+        (is ∙ (λ i. with_step w r (ne i) b.number (ce i)) ∙ (λ i. with_step w r (quotient (at i).rest b.poly) b.number
+        (reduced (at i).rest b.poly)))
 
     pub goal_stops : (old new : Work) (e : Overrun) → Tells e (reduce_outcome g.rest b.poly) →
         Steps (work_by_reducible hyps limit w (member_reducible w.basis 0 w.remainders)) (Err e) old new
@@ -56,7 +58,8 @@ module _ (limit : ℕ) (w : Work) (due : w.count < limit) where
   -- rule 7
   module _ (i j : ℕ) (b c : Member) (first : Some b ≡ member_at w.basis i) (second : Some c ≡ member_at w.basis j) where
     number_is : (basis : List Member) (k : ℕ) (d : Member) → Some d ≡ member_at basis k → k ≡ d.number
-    number_is basis k d e = sym (eqb-true d.number k (found (λ (x : Member). Rattle.std.specs.Prelude.nat_eq x.number k) basis d (sym e)))
+    number_is basis k d e = sym (eqb-true d.number k (found (λ (x : Member). Rattle.std.specs.Prelude.nat_eq x.number
+        k) basis d (sym e)))
 
     pub pair_goes : (m n : Monomial) (x : Cancelled) (new : Work) → s_outcome b.poly c.poly ≡ Outcome.Fine →
         m ≡ left_lift b.poly c.poly → n ≡ right_lift b.poly c.poly → x ≡ s_polynomial b.poly c.poly →
@@ -83,7 +86,8 @@ line_same limit w c (e ∷ p) =
       | Some b ↦ refl
     ]
 
-pub line_steps : (hyps : List Polynomial) (limit : ℕ) (w : Work) (c : Member) (r : Result (Option Ending) Overrun) (new : Work) →
+pub line_steps : (hyps : List Polynomial) (limit : ℕ) (w : Work) (c : Member) (r : Result (Option Ending) Overrun)
+    (new : Work) →
     ((x : ℕ) → zero_power w.remainders ≡ Some x → ⊥) → w.current ≡ Some c →
     Steps (work_by_line limit (record w { current = None }) c c.poly) r (with_current w c) new →
     Steps (work_next hyps limit w) r w new

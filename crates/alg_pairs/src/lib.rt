@@ -9,3 +9,6 @@ mod pairs;
 pub use alg_mono::{Mono, NoMemory};
 pub use pair::Pair;
 pub use pairs::Pairs;
+
+#[cfg(test)]
+mod tests;

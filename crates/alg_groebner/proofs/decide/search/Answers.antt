@@ -33,10 +33,13 @@ certificate_of-requires-clause-first c =
     let gs : c.begin-machine.result.remainders.items ≡ powers g 1 c.args.power =
     (λ i. (c.begin-machine.ensures i).remainders) ∙ c.in_ok-remainders.ensures.value in
     let w = work_of c.run.new.machine in
-    let there = subst (λ (e : Ending). RunsAs c.args.limit (first_state hyps c.begin-machine.result.remainders.items) (Ok e) w)
+    let there = subst (λ (e : Ending). RunsAs c.args.limit (first_state hyps c.begin-machine.result.remainders.items)
+    (Ok e) w)
     c.in-Ok-Proved.field-0-is c.in-Ok-Proved.ensures in
-    let ran = subst (λ (xs : List Remainder). RunsAs c.args.limit (first_state hyps xs) (Ok (Proved c.in-Ok-Proved.r)) w) gs there in
-    (proved_bounds hyps g c.args.power c.args.limit c.requires.few c.requires.powers c.requires.limited c.in_ok-remainders.ensures.fine c.in-Ok-Proved.r w ran).0
+    let ran = subst (λ (xs : List Remainder). RunsAs c.args.limit (first_state hyps xs) (Ok (Proved c.in-Ok-Proved.r))
+    w) gs there in
+    (proved_bounds hyps g c.args.power c.args.limit c.requires.few c.requires.powers c.requires.limited
+    c.in_ok-remainders.ensures.fine c.in-Ok-Proved.r w ran).0
 
 pub certificate_of-requires-clause-power : goal.certificate_of-requires-clause-power
 certificate_of-requires-clause-power c =
@@ -45,10 +48,13 @@ certificate_of-requires-clause-power c =
     let gs : c.begin-machine.result.remainders.items ≡ powers g 1 c.args.power =
     (λ i. (c.begin-machine.ensures i).remainders) ∙ c.in_ok-remainders.ensures.value in
     let w = work_of c.run.new.machine in
-    let there = subst (λ (e : Ending). RunsAs c.args.limit (first_state hyps c.begin-machine.result.remainders.items) (Ok e) w)
+    let there = subst (λ (e : Ending). RunsAs c.args.limit (first_state hyps c.begin-machine.result.remainders.items)
+    (Ok e) w)
     c.in-Ok-Proved.field-0-is c.in-Ok-Proved.ensures in
-    let ran = subst (λ (xs : List Remainder). RunsAs c.args.limit (first_state hyps xs) (Ok (Proved c.in-Ok-Proved.r)) w) gs there in
-    (proved_bounds hyps g c.args.power c.args.limit c.requires.few c.requires.powers c.requires.limited c.in_ok-remainders.ensures.fine c.in-Ok-Proved.r w ran).1
+    let ran = subst (λ (xs : List Remainder). RunsAs c.args.limit (first_state hyps xs) (Ok (Proved c.in-Ok-Proved.r))
+    w) gs there in
+    (proved_bounds hyps g c.args.power c.args.limit c.requires.few c.requires.powers c.requires.limited
+    c.in_ok-remainders.ensures.fine c.in-Ok-Proved.r w ran).1
 
 pub certificate_of-requires-clause-lines : goal.certificate_of-requires-clause-lines
 certificate_of-requires-clause-lines c =
@@ -57,10 +63,13 @@ certificate_of-requires-clause-lines c =
     let gs : c.begin-machine.result.remainders.items ≡ powers g 1 c.args.power =
     (λ i. (c.begin-machine.ensures i).remainders) ∙ c.in_ok-remainders.ensures.value in
     let w = work_of c.run.new.machine in
-    let there = subst (λ (e : Ending). RunsAs c.args.limit (first_state hyps c.begin-machine.result.remainders.items) (Ok e) w)
+    let there = subst (λ (e : Ending). RunsAs c.args.limit (first_state hyps c.begin-machine.result.remainders.items)
+    (Ok e) w)
     c.in-Ok-Proved.field-0-is c.in-Ok-Proved.ensures in
-    let ran = subst (λ (xs : List Remainder). RunsAs c.args.limit (first_state hyps xs) (Ok (Proved c.in-Ok-Proved.r)) w) gs there in
-    (proved_bounds hyps g c.args.power c.args.limit c.requires.few c.requires.powers c.requires.limited c.in_ok-remainders.ensures.fine c.in-Ok-Proved.r w ran).2
+    let ran = subst (λ (xs : List Remainder). RunsAs c.args.limit (first_state hyps xs) (Ok (Proved c.in-Ok-Proved.r))
+    w) gs there in
+    (proved_bounds hyps g c.args.power c.args.limit c.requires.few c.requires.powers c.requires.limited
+    c.in_ok-remainders.ensures.fine c.in-Ok-Proved.r w ran).2
 
 pub returns-in-Ok-Proved-clause-decides : goal.returns-in-Ok-Proved-clause-decides
 returns-in-Ok-Proved-clause-decides c =
@@ -69,10 +78,14 @@ returns-in-Ok-Proved-clause-decides c =
     let gs : c.begin-machine.result.remainders.items ≡ powers g 1 c.args.power =
     (λ i. (c.begin-machine.ensures i).remainders) ∙ c.in_ok-remainders.ensures.value in
     let w = work_of c.run.new.machine in
-    let there = subst (λ (e : Ending). RunsAs c.args.limit (first_state hyps c.begin-machine.result.remainders.items) (Ok e) w)
+    let there = subst (λ (e : Ending). RunsAs c.args.limit (first_state hyps c.begin-machine.result.remainders.items)
+    (Ok e) w)
     c.in-Ok-Proved.field-0-is c.in-Ok-Proved.ensures in
-    let ran = subst (λ (xs : List Remainder). RunsAs c.args.limit (first_state hyps xs) (Ok (Proved c.in-Ok-Proved.r)) w) gs there in
-    (proved hyps g c.args.power c.args.limit c.requires.few c.requires.powers c.requires.limited c.in_ok-remainders.ensures.fine c.in-Ok-Proved.r w c.in_ok-cert-in-Ok-Proved.cert ran c.in_ok-cert-in-Ok-Proved.ensures).0
+    let ran = subst (λ (xs : List Remainder). RunsAs c.args.limit (first_state hyps xs) (Ok (Proved c.in-Ok-Proved.r))
+    w) gs there in
+    (proved hyps g c.args.power c.args.limit c.requires.few c.requires.powers c.requires.limited
+    c.in_ok-remainders.ensures.fine c.in-Ok-Proved.r w c.in_ok-cert-in-Ok-Proved.cert ran
+    c.in_ok-cert-in-Ok-Proved.ensures).0
 
 pub returns-in-Ok-Proved-clause-within : goal.returns-in-Ok-Proved-clause-within
 returns-in-Ok-Proved-clause-within c =
@@ -81,10 +94,14 @@ returns-in-Ok-Proved-clause-within c =
     let gs : c.begin-machine.result.remainders.items ≡ powers g 1 c.args.power =
     (λ i. (c.begin-machine.ensures i).remainders) ∙ c.in_ok-remainders.ensures.value in
     let w = work_of c.run.new.machine in
-    let there = subst (λ (e : Ending). RunsAs c.args.limit (first_state hyps c.begin-machine.result.remainders.items) (Ok e) w)
+    let there = subst (λ (e : Ending). RunsAs c.args.limit (first_state hyps c.begin-machine.result.remainders.items)
+    (Ok e) w)
     c.in-Ok-Proved.field-0-is c.in-Ok-Proved.ensures in
-    let ran = subst (λ (xs : List Remainder). RunsAs c.args.limit (first_state hyps xs) (Ok (Proved c.in-Ok-Proved.r)) w) gs there in
-    (proved hyps g c.args.power c.args.limit c.requires.few c.requires.powers c.requires.limited c.in_ok-remainders.ensures.fine c.in-Ok-Proved.r w c.in_ok-cert-in-Ok-Proved.cert ran c.in_ok-cert-in-Ok-Proved.ensures).1
+    let ran = subst (λ (xs : List Remainder). RunsAs c.args.limit (first_state hyps xs) (Ok (Proved c.in-Ok-Proved.r))
+    w) gs there in
+    (proved hyps g c.args.power c.args.limit c.requires.few c.requires.powers c.requires.limited
+    c.in_ok-remainders.ensures.fine c.in-Ok-Proved.r w c.in_ok-cert-in-Ok-Proved.cert ran
+    c.in_ok-cert-in-Ok-Proved.ensures).1
 
 pub returns-in-Ok-NoneUpTo-clause-decides : goal.returns-in-Ok-NoneUpTo-clause-decides
 returns-in-Ok-NoneUpTo-clause-decides c =
@@ -93,9 +110,11 @@ returns-in-Ok-NoneUpTo-clause-decides c =
     let gs : c.begin-machine.result.remainders.items ≡ powers g 1 c.args.power =
     (λ i. (c.begin-machine.ensures i).remainders) ∙ c.in_ok-remainders.ensures.value in
     let w = work_of c.run.new.machine in
-    let there = subst (λ (e : Ending). RunsAs c.args.limit (first_state hyps c.begin-machine.result.remainders.items) (Ok e) w)
+    let there = subst (λ (e : Ending). RunsAs c.args.limit (first_state hyps c.begin-machine.result.remainders.items)
+    (Ok e) w)
     c.in-Ok-NoneUpTo.field-0-is c.in-Ok-NoneUpTo.ensures in
-    let ran = subst (λ (xs : List Remainder). RunsAs c.args.limit (first_state hyps xs) (Ok (NoneUpTo c.in-Ok-NoneUpTo.r)) w) gs there in
+    let ran = subst (λ (xs : List Remainder). RunsAs c.args.limit (first_state hyps xs)
+    (Ok (NoneUpTo c.in-Ok-NoneUpTo.r)) w) gs there in
     (ran.0, runs c.in_ok-remainders.ensures.fine ran.1)
 
 pub returns-in-Ok-GaveUp-clause-decides : goal.returns-in-Ok-GaveUp-clause-decides
@@ -105,7 +124,8 @@ returns-in-Ok-GaveUp-clause-decides c =
     let gs : c.begin-machine.result.remainders.items ≡ powers g 1 c.args.power =
     (λ i. (c.begin-machine.ensures i).remainders) ∙ c.in_ok-remainders.ensures.value in
     let w = work_of c.run.new.machine in
-    let there = subst (λ (e : Ending). RunsAs c.args.limit (first_state hyps c.begin-machine.result.remainders.items) (Ok e) w)
+    let there = subst (λ (e : Ending). RunsAs c.args.limit (first_state hyps c.begin-machine.result.remainders.items)
+    (Ok e) w)
     c.in-Ok-GaveUp.field-0-is c.in-Ok-GaveUp.ensures in
     let ran = subst (λ (xs : List Remainder). RunsAs c.args.limit (first_state hyps xs) (Ok GaveUp) w) gs there in
     (refl, (ran.0, runs c.in_ok-remainders.ensures.fine ran.1))
@@ -117,5 +137,7 @@ returns-clause-decides c =
     let gs : c.begin-machine.result.remainders.items ≡ powers g 1 c.args.power =
     (λ i. (c.begin-machine.ensures i).remainders) ∙ c.in_ok-remainders.ensures.value in
     let w = work_of c.run.new.machine in
-    let ran = subst (λ (xs : List Remainder). RunsAs c.args.limit (first_state hyps xs) (Err c.in-Err.end) w) gs c.in-Err.ensures in
-    refused_run hyps g c.args.power c.args.limit c.requires.few c.requires.powers c.requires.limited c.in_ok-remainders.ensures.fine w c.in-Err.end ran
+    let ran = subst (λ (xs : List Remainder). RunsAs c.args.limit (first_state hyps xs) (Err c.in-Err.end) w) gs
+    c.in-Err.ensures in
+    refused_run hyps g c.args.power c.args.limit c.requires.few c.requires.powers c.requires.limited
+    c.in_ok-remainders.ensures.fine w c.in-Err.end ran

@@ -21,7 +21,8 @@ loop-at-preserved c =
     elim c.if-marks-given.branch [
       | then-marks-given+in_ok-renumber_line+in_ok-push w ↦ (
         omega arith,
-        kept_turn numbers marks made (given + at) at w.index-made-at.result inside here w.index-made-at.is (given + (at + 1)) after out all
+        kept_turn numbers marks made (given + at) at w.index-made-at.result inside here w.index-made-at.is
+            (given + (at + 1)) after out all
             c.loop-at.invariant.1 w.if-marks-given.true c.if-marks-given.out.items w.in_ok-renumber_line.field-0
             ((λ k. (w.out-is k).items) ∙ w.in_ok-push.ensures.items) w.in_ok-renumber_line.ensures,
       )
@@ -29,7 +30,8 @@ loop-at-preserved c =
         omega arith,
         (λ k. (w.out-is k).items ++ kept_lines numbers (drop (given + (at + 1)) marks) (drop (at + 1) made))
             ∙ left_turn numbers marks made (given + at) at (get_or made at (some_line made here)) inside here
-            (get_or_default made at (some_line made here) (get_or made at (some_line made here)) here) (given + (at + 1)) after out all
+            (get_or_default made at (some_line made here) (get_or made at (some_line made here)) here)
+            (given + (at + 1)) after out all
             c.loop-at.invariant.1 w.if-marks-given.false,
       )
     ]

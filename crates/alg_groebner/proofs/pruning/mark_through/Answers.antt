@@ -13,6 +13,8 @@ loop-at-preserved c =
     let low = c.loop-at.invariant.0 in
     let one : at ≡ at - 1 + 1 = omega arith in (
       omega arith,
-      marked_turn given (at - 1) made c.index-made-at.result c.loop-at.marks.items c.mark_from.new.marks.items first (omega arith) c.index-made-at.is
-          (subst (λ k. c.loop-at.marks.items ≡ mark_lines (given + k) (drop k made) first) one c.loop-at.invariant.1) c.mark_from.ensures,
+      marked_turn given (at - 1) made c.index-made-at.result c.loop-at.marks.items c.mark_from.new.marks.items first
+          (omega arith) c.index-made-at.is
+          (subst (λ k. c.loop-at.marks.items ≡ mark_lines (given + k) (drop k made) first) one c.loop-at.invariant.1)
+          c.mark_from.ensures,
     )

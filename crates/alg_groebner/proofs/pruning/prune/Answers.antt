@@ -17,5 +17,6 @@ returns c =
     ∙ (λ k. kept_lines (c.deref-2.ensures.value k) (drop given (c.deref-3.ensures.value k)) made) in
     let kept : c.from_vec-2.result ≡ map (renumbered_step news) steps =
     c.from_vec-2.ensures ∙ c.in_ok-steps.ensures ∙ (λ k. map (renumbered_step (c.deref-4.ensures.value k)) steps) in
-    certificate_is given made steps c.args.power all news c.from_vec.result c.from_vec-2.result c.in_ok-marks.ensures.value
+    certificate_is given made steps c.args.power all news c.from_vec.result c.from_vec-2.result
+    c.in_ok-marks.ensures.value
     numbers lines kept

@@ -9,7 +9,8 @@ use Rattle.alg_groebner.proofs.run.run.Goals as goal
 
 pub loop-ending-init : goal.loop-ending-init
 loop-ending-init c =
-    begins c.args.hyps.now c.args.limit c.args.machine.now.remainders.items (work_of c.args.machine.now) c.requires.begins
+    begins c.args.hyps.now c.args.limit c.args.machine.now.remainders.items (work_of c.args.machine.now)
+    c.requires.begins
     c.requires.sound
 
 pub step-requires : goal.step-requires

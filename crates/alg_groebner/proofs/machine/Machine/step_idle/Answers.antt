@@ -10,7 +10,8 @@ use Rattle.alg_groebner.proofs.machine.Machine.step_idle.Goals as goal
 pub index-requires : goal.index-requires
 index-requires c =
     let chosen = c.in-Some.ensures ∙ (λ i. member_reducible (c.deref.ensures.value i) 0 (c.deref-2.ensures.value i)) in
-    let h = place_within c.args.self.now.basis.items c.args.self.now.remainders.items c.in-Some.r c.in-Some.member.now chosen in
+    let h = place_within c.args.self.now.basis.items c.args.self.now.remainders.items c.in-Some.r c.in-Some.member.now
+    chosen in
     search (rules, h)
 
 pub reduce-requires : goal.reduce-requires
