@@ -3,6 +3,8 @@ use Rattle.std.proofs.Common.{◌≡◌, ◌⊎◌, inl, inr, ◌<◌, ℕ, List
 use Rattle.std.specs.Prelude.{IfSome, Ok, Err}
 use Rattle.alg_outside.specs.Bytes.{Appends, ConsumesAll}
 use Rattle.alg_universe.specs.declared.universe.Universe.{Ghosts}
+use Rattle.alg_reader.specs.declared.place.Place.TheVariants.{Plain}
+use Rattle.alg_reader.specs.Tokens.{Unread, unread_at}
 use Rattle.alg_typing.specs.Laws.{OneReading}
 use Rattle.alg_printer.specs.Text.{text_of}
 use Rattle.alg_prover.specs.Answers.{AreAnswers}
@@ -40,6 +42,10 @@ writes_by_status IsText planned result c text Rose fine is (inl (same, all)) =
 writes_by_status IsText planned result c text Rose fine is (inr (failed, rose, prefix)) =
     subst (λ s. WritesByStatus IsText s c) (sym failed) (text, planned, is, prefix)
 
+-- the words that can't be read yet in a file without answers
+abbrev today : Unread
+today = unread_at Plain
+
 -- two replies to one input
 pub record IsSame (text other : List ℕ) (status planned : Status) : Type 0 where
   pub same_text : text ≡ other
@@ -48,7 +54,7 @@ pub record IsSame (text other : List ℕ) (status planned : Status) : Type 0 whe
 refused_once : OneReading → (bytes text other : List ℕ) (status planned : Status) → IsRefused bytes text status →
     IsRefused bytes other planned → IsSame text other status planned
 refused_once law bytes text other status planned one two =
-    let same : Err one.fault ≡ Err two.fault = law bytes (Err one.fault) (Err two.fault) one.reads two.reads in
+    let same : Err one.fault ≡ Err two.fault = law today bytes (Err one.fault) (Err two.fault) one.reads two.reads in
     let fault : one.fault ≡ two.fault = cc in
     record {
       same_text = one.writes ∙ ap refusal_text fault ∙ sym two.writes;
@@ -59,7 +65,7 @@ module _ {E : Type 0} (u : Ghosts E) where
   answered_once : OneReading → OneAnswer → (bytes text other : List ℕ) (status planned : Status) →
       IsAnswered u bytes text status → IsAnswered u bytes other planned → IsSame text other status planned
   answered_once law determined bytes text other status planned one two =
-      let same : Ok one.file ≡ Ok two.file = law bytes (Ok one.file) (Ok two.file) one.reads two.reads in
+      let same : Ok one.file ≡ Ok two.file = law today bytes (Ok one.file) (Ok two.file) one.reads two.reads in
       let file : one.file ≡ two.file = cc in
       let theirs : AreAnswers two.file one.reply.answers =
       subst (λ f. AreAnswers f one.reply.answers) file one.reply.are_answers in
@@ -74,7 +80,7 @@ module _ {E : Type 0} (u : Ghosts E) where
   never_both : OneReading → (bytes text other : List ℕ) (status planned : Status) → IsRefused bytes text status →
       IsAnswered u bytes other planned → ⊥
   never_both law bytes text other status planned one two =
-      let same = law bytes (Err one.fault) (Ok two.file) one.reads two.reads in cc
+      let same = law today bytes (Err one.fault) (Ok two.file) one.reads two.reads in cc
 
   -- bytes within the limit have one reply
   within_once : OneReading → OneAnswer → (command : Command) (bytes text other : List ℕ) (status planned : Status) →
