@@ -1,0 +1,7 @@
+//! Buchberger's theorem over the search machine: where the search ends with nothing left to do, no
+//! certificate exists.
+//!
+//! What a combination is stands in `specs/Combinations.antt`, and the laws in `specs/Laws.antt`.
+#![tactic(auto)]
+
+pub mod laws;
