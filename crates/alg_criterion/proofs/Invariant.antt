@@ -1,5 +1,5 @@
 -- What the search keeps: each pair of basis lines waits, or is below its lcm up to the current line; each hypothesis likewise; each remainder is what is left of its power.
-use Rattle.std.specs.Prelude.{◌≡◌, List, [], ◌∷◌, ℤ, pos, negsuc, ◌+ℤ◌, ◌*ℤ◌}
+use Rattle.std.specs.Prelude.{◌≡◌, List, [], ◌∷◌, ◌++◌, ℤ, pos, negsuc, ◌+ℤ◌, ◌*ℤ◌}
 use Rattle.std.proofs.Common.{refl, sym, ap, subst, ◌∙◌, ◌⊎◌, inl, inr, arith}
 use Rattle.std.proofs.lemmas.Int.{ints}
 use lib.IntN.{neg_ℤ}
@@ -249,7 +249,7 @@ module _ {M : Type 0} {cmp : M → M → Ordering} {times over : M → M → M} 
         }
     inv t (reduces s r old new e l m d) =
         let i = inv s r in
-        let t : Seen M = record s { current = Some new; made = new ∷ s.made } in
+        let t : Seen M = record s { current = Some new; made = s.made ++ new ∷ [] } in
         let c = λ (Low : M → Type 0) (p : Poly) (k : IsTask Low p) (x : Cleared (In s) s.current Low p). cleared_reduct (In s) i.line Low p k s.current old new e (i.current old e) l m d x in
         record {
           line = i.line;
@@ -314,7 +314,7 @@ module _ {M : Type 0} {cmp : M → M → Ordering} {times over : M → M → M} 
         }
     inv t (pairs_up s r e f g hf hg rest k new d) =
         let i = inv s r in
-        let t : Seen M = record s { pairs = rest; current = Some new; made = new ∷ s.made } in
+        let t : Seen M = record s { pairs = rest; current = Some new; made = s.made ++ new ∷ [] } in
         let c : (Low : M → Type 0) (p : Poly) → IsTask Low p → Cleared (In s) s.current Low p → Cleared (In t) t.current Low p = λ Low p k x. inl (cleared_idle (In s) i.line Low p k s.current e x) in
         let half : (x y : Led M) → IsLine cmp times Ok x → IsLine cmp times Ok y → Half s x y → Half t x y = λ x y jx jy h. elim h [
           | inl a ↦ elim (k (x, y) a) [

@@ -21,3 +21,11 @@ mod Lists
 mod Restated
 mod Pairs
 mod LeadsDivide
+mod Members
+mod Commons
+mod Seeing
+mod Joining
+mod Reducing
+mod Linked
+mod Running
+mod Theorem

@@ -10,7 +10,7 @@ use Rattle.alg_mono.proofs.Numbers.{*ℤ_assoc}
 use Rattle.alg_criterion.proofs.Spans.{Every, Led, whole, IsLine, Spans, IsMonomials}
 use Rattle.alg_criterion.proofs.Machine.{Has, Seen, scale, IsPoly, Reached, start, steps, drops, reduces, joins, takes, pairs_up}
 use Rattle.alg_criterion.proofs.Whole.{product_apart, mul_left}
-use Rattle.alg_criterion.proofs.Criterion.{scaled, at-scaled}
+use Rattle.alg_criterion.proofs.Criterion.{scaled, at-scaled, every-append}
 use Rattle.alg_criterion.proofs.Lifts.{at-scale}
 use Rattle.alg_criterion.proofs.Remains.{poly_line, every-scaled, leaves_start, leaves_line}
 use Rattle.alg_criterion.proofs.Sums.{Any, sum_nil, sum-append, sum-row}
@@ -31,7 +31,7 @@ module _ {M : Type 0} {cmp : M → M → Ordering} {times over : M → M → M} 
   line : (l : Led M) → IsGiven l → IsLine cmp times Ok l
   line l m = poly_line L l (given_poly hyps hyps_ok (whole l) m)
 
-  sum_given : (h : List (M × ℤ)) → Has h hyps → Sum h
+  pub sum_given : (h : List (M × ℤ)) → Has h hyps → Sum h
   sum_given [] m = sum_nil L IsGiven line
   sum_given (e ∷ p) m =
       let l : Led M = record { lead = e.0; leading = e.1; rest = p } in
@@ -69,7 +69,7 @@ module _ {M : Type 0} {cmp : M → M → Ordering} {times over : M → M → M} 
       let m = made_sums s r in
       let sum : Sum new = sum_divided d.d d.d_some (scale d.a old ++ row times ◌*ℤ◌ d.by (neg_ℤ d.b) (whole l)) new d.same
       (sum-append L IsGiven line (scale d.a old) (row times ◌*ℤ◌ d.by (neg_ℤ d.b) (whole l)) (sum_scale d.a old (m.current old e)) (sum-row L IsGiven line d.by (neg_ℤ d.b) (whole l) d.ok (m.basis l h))) in
-      record { made = (sum, m.made); basis = m.basis; current = λ c k. subst Sum (some_same new c k) sum; inputs = m.inputs }
+      record { made = every-append Sum s.made (new ∷ []) m.made (sum, tt); basis = m.basis; current = λ c k. subst Sum (some_same new c k) sum; inputs = m.inputs }
   made_sums t (joins s r l e wider l_in grows split more k meets) =
       let m = made_sums s r in
       record { made = m.made; basis = λ x h. elim (split x h) [ inl p ↦ subst (λ v. Sum (whole v)) (sym p) (m.current (whole l) e) | inr h ↦ m.basis x h ]; current = λ c e. none_some c e; inputs = m.inputs }
@@ -87,7 +87,18 @@ module _ {M : Type 0} {cmp : M → M → Ordering} {times over : M → M → M} 
       let sum : Sum new = sum_divided d.d d.d_some (row times ◌*ℤ◌ a d.a (whole f) ++ row times ◌*ℤ◌ b (neg_ℤ d.b) (whole g)) new d.same
       (sum-append L IsGiven line (row times ◌*ℤ◌ a d.a (whole f)) (row times ◌*ℤ◌ b (neg_ℤ d.b) (whole g))
       (sum-row L IsGiven line a d.a (whole f) (L.ok_over g.lead f.lead og of) (m.basis f hf)) (sum-row L IsGiven line b (neg_ℤ d.b) (whole g) (L.ok_over f.lead g.lead of og) (m.basis g hg))) in
-      record { made = (sum, m.made); basis = m.basis; current = λ c k. subst Sum (some_same new c k) sum; inputs = m.inputs }
+      record { made = every-append Sum s.made (new ∷ []) m.made (sum, tt); basis = m.basis; current = λ c k. subst Sum (some_same new c k) sum; inputs = m.inputs }
 
   pub all_made : (s : Seen M) → Reached cmp times over Ok hyps powers s → Every Sum s.made
   all_made s r = (made_sums s r).made
+
+  pub made_polys : (s : Seen M) → Reached cmp times over Ok hyps powers s → Every (IsPoly cmp times over Ok) s.made
+  made_polys t start = tt
+  made_polys t (steps s r new h) = made_polys s r
+  made_polys t (drops s r e) = made_polys s r
+  made_polys t (reduces s r old new e l h d) =
+      every-append (IsPoly cmp times over Ok) s.made (new ∷ []) (made_polys s r) (d.poly, tt)
+  made_polys t (joins s r l e wider l_in grows split more k meets) = made_polys s r
+  made_polys t (takes s r e h rest k) = made_polys s r
+  made_polys t (pairs_up s r e f g hf hg rest k new d) =
+      every-append (IsPoly cmp times over Ok) s.made (new ∷ []) (made_polys s r) (d.poly, tt)

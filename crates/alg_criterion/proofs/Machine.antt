@@ -30,7 +30,7 @@ pub record Seen (M : Type 0) : Type 0 where
   pub inputs : List (List (M × ℤ))
   pub remainders : List (List (M × ℤ))
   pub current : Option (List (M × ℤ))
-  -- the lines that were made beyond the hypotheses, the last first
+  -- the lines that were made beyond the hypotheses
   pub made : List (List (M × ℤ))
 
 module _ {M : Type 0} (cmp : M → M → Ordering) (times : M → M → M) (over : M → M → M) (Ok : M → Type 0) where
@@ -80,7 +80,7 @@ module _ {M : Type 0} (cmp : M → M → Ordering) (times : M → M → M) (over
     drops : (s : Seen M) → Reached hyps powers s → s.current ≡ Some [] → Reached hyps powers (record s { current = None })
     -- rule 4
     reduces : (s : Seen M) → Reached hyps powers s → (old new : List (M × ℤ)) → s.current ≡ Some old → (l : Led M) → Has l s.basis → IsReduct old l new →
-        Reached hyps powers (record s { current = Some new; made = new ∷ s.made })
+        Reached hyps powers (record s { current = Some new; made = s.made ++ new ∷ [] })
     -- rule 5
     joins : (s : Seen M) → Reached hyps powers s → (l : Led M) → s.current ≡ Some (whole l) → (wider : List (Led M)) → Has l wider → ((k : Led M) → Has k s.basis → Has k wider) → ((k : Led M) → Has k wider → (k ≡ l) ⊎ Has k s.basis) →
         (more : List (Led M × Led M)) → ((p : Led M × Led M) → Has p s.pairs → Has p more) →
@@ -92,7 +92,7 @@ module _ {M : Type 0} (cmp : M → M → Ordering) (times : M → M → M) (over
     -- rule 7
     pairs_up : (s : Seen M) → Reached hyps powers s → s.current ≡ None → (f g : Led M) → Has f s.basis → Has g s.basis → (rest : List (Led M × Led M)) →
         ((p : Led M × Led M) → Has p s.pairs → (p ≡ (f, g)) ⊎ Has p rest) → (new : List (M × ℤ)) → IsSPolynomial f g new →
-        Reached hyps powers (record s { pairs = rest; current = Some new; made = new ∷ s.made })
+        Reached hyps powers (record s { pairs = rest; current = Some new; made = s.made ++ new ∷ [] })
 
   -- a polynomial that no basis line reduces
   pub record IsReduced (basis : List (Led M)) (p : List (M × ℤ)) : Type 0 where
