@@ -19,9 +19,13 @@ pub one_bound : {A : Type 0} (P : A → ℕ → Type 0) → ((x : A) (b c : ℕ)
 one_bound P more [] h = (0, tt)
 one_bound P more (x ∷ xs) h =
     let r = one_bound P more xs h.1 in
-    let b = h.0.0 + r.0 in
-    (b, (more x h.0.0 b (omega arith) h.0.1,
-    every_more (λ y. P y r.0) (λ y. P y b) (λ y p. more y r.0 b (omega arith) p) xs r.1))
+    let b = h.0.0 + r.0 in (
+      b,
+      (
+        more x h.0.0 b (omega arith) h.0.1,
+        every_more (λ y. P y r.0) (λ y. P y b) (λ y p. more y r.0 b (omega arith) p) xs r.1,
+      ),
+    )
 
 pub within_more : (b c : ℕ) → b ≤ c → (m : Mono) → IsWithin b m → IsWithin c m
 within_more b c h m w = record {

@@ -1,5 +1,5 @@
 -- The pairs of a line that joins the basis.
-use Rattle.std.specs.Prelude.{map, ◌≡◌, ℕ, ◌<◌, ◌≤◌, true, false, cond, List, [], ◌∷◌, min, max}
+use Rattle.std.specs.Prelude.{map, ◌≡◌, ℕ, true, false, cond, List, [], ◌∷◌, min, max}
 use Rattle.std.proofs.Common.{refl, sym, ap, subst, ◌⊎◌, inl, inr, arith}
 use Rattle.std.specs.declared.cmp.Ordering.TheVariants.{Equal}
 use Rattle.std.specs.Ordering.{nat_cmp, ordering_then}

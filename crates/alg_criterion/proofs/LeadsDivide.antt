@@ -1,6 +1,6 @@
 -- Where all pairs of a basis are below, leads of combinations are divisible.
 use Rattle.std.specs.Prelude.{◌≡◌, ◌≢◌, ℕ, ◌+◌, ◌≤◌, true, List, [], ◌∷◌, All}
-use Rattle.std.proofs.Common.{refl, sym, subst, ◌∙◌, arith}
+use Rattle.std.proofs.Common.{refl, subst, ◌∙◌, arith}
 use Rattle.std.specs.List.{Contains}
 use Rattle.std.specs.Ordering.{nat_cmp}
 use Rattle.std.specs.Cmp.{nat_cmp_total}
@@ -16,10 +16,9 @@ use Rattle.alg_mono.proofs.Lcm.{divides_product}
 use Rattle.alg_groebner.specs.Cancelling.{lead_lcm, s_polynomial}
 use Rattle.alg_groebner.specs.Leads.{reduces}
 use Rattle.alg_groebner.proofs.Leading.{divides_says}
-use Rattle.alg_criterion.specs.Combinations.{Part, IsPart, IsSum, IsBelowOver, IsCombination, ArePairsBelow}
+use Rattle.alg_criterion.specs.Combinations.{Part, IsPart, IsBelowOver, ArePairsBelow}
 use Rattle.alg_criterion.specs.Laws.{IsBasisLine, LeadsDivide}
-use Rattle.alg_criterion.proofs.Spans.{Every, Led, whole, IsLine, Spans, Under, ArePairsBelowLcm, lcm_of, s_entries}
-use Rattle.alg_criterion.proofs.Machine.{IsSPolynomial}
+use Rattle.alg_criterion.proofs.Spans.{Every, Led, whole, IsLine, Spans, Under, ArePairsBelowLcm, s_entries}
 use Rattle.alg_criterion.proofs.Numbered.{IsWithin, mono_times, mono_over, falling}
 use Rattle.alg_criterion.proofs.Quotients.{times_comm}
 use Rattle.alg_criterion.proofs.Criterion.{leads_divide_lem}
@@ -118,9 +117,11 @@ module _ (basis : List Polynomial) where
           mono_over L.ok_over L.lcm_least pairs_below) p ip s in
           let product : Divides nat_cmp r.line.lead p.lead =
           subst (Divides nat_cmp r.line.lead) (times_comm r.line.lead r.quotient ∙ r.divides)
-          (divides_product nat_cmp_total nat_cmp-IsAntisymmetric r.line.lead r.quotient) in
-          (whole r.line, r.member,
-          (divides_says r.line.lead p.lead ((line r.line r.member).ok.0.canonical)).1 product)
+          (divides_product nat_cmp_total nat_cmp-IsAntisymmetric r.line.lead r.quotient) in (
+            whole r.line,
+            r.member,
+            (divides_says r.line.lead p.lead ((line r.line r.member).ok.0.canonical)).1 product,
+          )
 
 pub leads_divide : LeadsDivide
 leads_divide basis lines below [] ip apart c = absurd (apart refl)

@@ -1,6 +1,6 @@
 -- What holds of each of a list, by its places and by recursion.
 use Rattle.std.specs.Prelude.{◌≡◌, ◌≢◌, List, [], ◌∷◌, pos, All}
-use Rattle.std.proofs.Common.{refl, subst}
+use Rattle.std.proofs.Common.{refl}
 use Rattle.std.specs.List.{Contains}
 use Rattle.std.proofs.lemmas.List.Elements.{All-nil, All-cons, All-head, All-tail, All-contains_itself}
 use Rattle.alg_mono.specs.Mono.{Monomial}

@@ -1,5 +1,5 @@
 -- What is in a list.
-use Rattle.std.specs.Prelude.{map, ◌≡◌, ℕ, Bool, true, false, cond, List, [], ◌∷◌, Option, Some, None, All}
+use Rattle.std.specs.Prelude.{map, ◌≡◌, ℕ, Bool, true, false, cond, List, [], ◌∷◌, Some, None, All}
 use Rattle.std.proofs.Common.{refl, sym, ap, subst, ◌∙◌, ◌⊎◌, inl, inr}
 use Rattle.std.specs.List.{find, Contains}
 use Rattle.std.specs.declared.cmp.Ordering.{Ordering}

@@ -1,5 +1,5 @@
 -- The S-polynomial of the machine is a multiple of the crossed difference of the proofs.
-use Rattle.std.specs.Prelude.{◌≡◌, ◌≢◌, ℕ, ◌++◌, ℤ, pos, ◌+ℤ◌, ◌*ℤ◌}
+use Rattle.std.specs.Prelude.{◌≡◌, ℕ, ℤ, pos, ◌+ℤ◌, ◌*ℤ◌}
 use Rattle.std.proofs.Common.{sym, ap, ◌∙◌}
 use lib.IntN.{neg_ℤ}
 use Rattle.alg_mono.specs.Mono.{Monomial}

@@ -1,6 +1,6 @@
 -- The remainders: which one is reduced, and that none is at the end.
 use Rattle.std.specs.Prelude.{map, ◌≡◌, ℕ, zero, suc, ◌+◌, ◌<◌, true, false, cond, List, [], ◌∷◌, Option, Some, None, length, slice_set, slice_index_or, All}
-use Rattle.std.proofs.Common.{refl, sym, ap, subst, ◌∙◌, ◌⊎◌, inl, inr, arith}
+use Rattle.std.proofs.Common.{refl, sym, ap, subst, ◌∙◌, inl, arith}
 use Rattle.std.specs.List.{position_from}
 use Rattle.alg_mono.specs.Mono.{Monomial}
 use Rattle.alg_mono.specs.NumberedPolynomials.{Polynomial}
@@ -13,7 +13,7 @@ use Rattle.alg_groebner.proofs.Found.{same_some, none_some}
 use Rattle.alg_criterion.proofs.Spans.{Every, Led, whole, IsLine}
 use Rattle.alg_criterion.proofs.Machine.{Has, Pairwise, IsStep, IsReduced}
 use Rattle.alg_criterion.proofs.Numbered.{IsWithin, mono_times, mono_over, falling}
-use Rattle.alg_criterion.proofs.Lists.{led_of, whole-led_of}
+use Rattle.alg_criterion.proofs.Lists.{whole-led_of}
 use Rattle.alg_criterion.proofs.Members.{has_from, all_has, found_in, not_found}
 use Rattle.alg_criterion.proofs.Commons.{no_product}
 use Rattle.alg_criterion.proofs.Seeing.{led_at}
@@ -85,7 +85,7 @@ module _ (b : ℕ) (lines : List Polynomial) (basis : List ℕ) (there : All (Is
         | false ↦ λ t s. elim (reducer lines basis g.rest) as (λ o. reducer lines basis g.rest ≡ o →
             found_at n o (first_reducible lines basis (n + 1) gs) ≡ None →
             Reduced g.rest × Every Reduced (map (λ g. g.rest) gs)) [
-          | Some k ↦ λ q u. absurd (none_some (n, k) (sym u))
-          | None ↦ λ q u. (reduced_one g.rest t q, all_reduced gs (n + 1) (r + 1) u s)
-        ] refl e
+              | Some k ↦ λ q u. absurd (none_some (n, k) (sym u))
+              | None ↦ λ q u. (reduced_one g.rest t q, all_reduced gs (n + 1) (r + 1) u s)
+            ] refl e
       ] refl z

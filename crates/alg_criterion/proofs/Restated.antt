@@ -1,5 +1,5 @@
 -- Sums of parts as the proofs have them, and as the laws state them.
-use Rattle.std.specs.Prelude.{◌≡◌, ◌≢◌, ℕ, List, [], ◌∷◌, ◌++◌, ℤ, pos, ◌+ℤ◌, ◌*ℤ◌, All}
+use Rattle.std.specs.Prelude.{◌≡◌, ◌≢◌, ℕ, List, [], ◌∷◌, ◌++◌, ℤ, pos, ◌+ℤ◌, ◌*ℤ◌}
 use Rattle.std.proofs.Common.{refl, sym, ap, subst, ◌∙◌}
 use Rattle.std.specs.List.{Contains}
 use Rattle.std.specs.Ordering.{nat_cmp}
@@ -9,9 +9,8 @@ use Rattle.alg_mono.specs.Mono.{Monomial}
 use Rattle.alg_mono.specs.NumberedPolynomials.{Polynomial, multiple_of, term_of}
 use Rattle.alg_mono.proofs.Numbers.{integer_laws, *ℤ_assoc}
 use Rattle.alg_mono.proofs.Canonical.{IsCanonical-collect, same_canonical}
-use Rattle.alg_groebner.specs.Leads.{lead}
 use Rattle.alg_criterion.specs.Combinations.{Part, IsPart, IsSum, sum_of_parts}
-use Rattle.alg_criterion.proofs.Spans.{Every, Led, whole, Summand, summed, top, IsGood, Spans}
+use Rattle.alg_criterion.proofs.Spans.{Every, Led, whole, Summand, summed, IsGood, Spans}
 use Rattle.alg_criterion.proofs.Numbered.{IsWithin, mono_times, falling}
 use Rattle.alg_criterion.proofs.Quotients.{falling_total, falling_anti}
 use Rattle.alg_criterion.proofs.Rows.{at-append}

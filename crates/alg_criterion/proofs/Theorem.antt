@@ -1,52 +1,42 @@
 -- The laws of the search machine.
-use Rattle.std.specs.Prelude.{◌≡◌, ◌≢◌, ℕ, zero, suc, ◌+◌, ◌<◌, ◌≤◌, ◌^◌, List, [], ◌∷◌, ◌++◌, length, map, ℤ, pos, ◌+ℤ◌, ◌*ℤ◌, All}
-use Rattle.std.proofs.Common.{refl, sym, ap, subst, ◌∙◌, ◌⊎◌, inl, inr, arith, append-nil}
-use native.Mathlib.Decide.{dec_lt}
+use Rattle.std.specs.Prelude.{◌≡◌, ◌≢◌, ℕ, ◌≤◌, List, [], ◌∷◌, ◌++◌, length, map, ℤ, pos, ◌+ℤ◌, ◌*ℤ◌, All}
+use Rattle.std.proofs.Common.{refl, sym, ap, subst, ◌∙◌, inl, inr, arith}
 use Rattle.std.specs.List.{Contains}
-use Rattle.std.specs.declared.cmp.Ordering.{Ordering}
-use Rattle.std.specs.declared.cmp.Ordering.TheVariants.{Less, Equal, Greater}
-use Rattle.std.specs.Ordering.{nat_cmp, ordering_reverse}
-use Rattle.std.specs.Cmp.{nat_cmp_total, tied_itself}
-use Rattle.std.specs.FinMap.{nat_cmp-IsAntisymmetric}
+use Rattle.std.specs.declared.cmp.Ordering.TheVariants.{Less}
+use Rattle.std.specs.Ordering.{nat_cmp}
 use Rattle.alg_mono.specs.FiniteMaps.{IsCanonical, Each, products}
 use Rattle.alg_mono.specs.Numbers.{exponents, integers}
 use Rattle.alg_mono.specs.Mono.{Monomial}
 use Rattle.alg_mono.specs.Monomials.{grevlex}
 use Rattle.alg_mono.specs.NumberedPolynomials.{Polynomial, power_of, product_of, multiple_of}
 use Rattle.alg_mono.specs.Polynomials.{IsPolynomial}
-use Rattle.alg_mono.proofs.Closure.{IsPolynomial-power}
-use Rattle.alg_mono.proofs.Each.{Each-weaker}
-use Rattle.alg_mono.proofs.Numbers.{integer_laws}
 use Rattle.alg_lines.specs.Lines.{line_at}
 use Rattle.alg_groebner.specs.Cancelling.{lead_lcm, s_polynomial}
 use Rattle.alg_groebner.specs.Leads.{lead}
-use Rattle.alg_groebner.specs.Runs.{Runs, Comes, too_great, too_high, runs, powers, first_state}
 use Rattle.alg_groebner.specs.Sound.{IsThere, IsSound}
-use Rattle.alg_groebner.specs.State.{State, End, Ends}
-use Rattle.alg_groebner.proofs.Ending.{first_sound, runs_sound}
+use Rattle.alg_groebner.specs.State.{State, End}
 use Rattle.alg_criterion.specs.Combinations.{IsCombination, IsCombinationUpTo, IsBelowOver, ArePairsBelow, sum_of_products}
 use Rattle.alg_criterion.specs.Laws.{IsRun, basis_of, LinesAreCombinations, PairsAreBelow, NoneExists}
-use Rattle.alg_criterion.proofs.Spans.{Every, Led, whole, IsLine, Spans, Under, LowOf, lcm_of}
-use Rattle.alg_criterion.proofs.Machine.{Has, IsPoly, Reached, start, combined, IsCombination as IsSumOfProducts}
+use Rattle.alg_criterion.proofs.Spans.{Every, Led, whole, Spans, Under, LowOf, lcm_of}
+use Rattle.alg_criterion.proofs.Machine.{Has, combined, IsCombination as IsSumOfProducts}
 use Rattle.alg_criterion.proofs.Numbered.{IsWithin, mono_times, mono_over, falling}
-use Rattle.alg_criterion.proofs.Quotients.{falling_total, times_comm}
+use Rattle.alg_criterion.proofs.Quotients.{times_comm}
 use Rattle.alg_criterion.proofs.Criterion.{every-append}
 use Rattle.alg_criterion.proofs.Rows.{at-append}
 use Rattle.alg_criterion.proofs.Instance.{monomials}
 use Rattle.alg_criterion.proofs.Sums.{Any}
-use Rattle.alg_criterion.proofs.Invariant.{Inv, inv, all_below, all_cleared, none_exists_at}
+use Rattle.alg_criterion.proofs.Invariant.{inv, all_below, all_cleared, none_exists_at}
 use Rattle.alg_criterion.proofs.Lines.{all_made, made_polys, sum_given}
 use Rattle.alg_criterion.proofs.Bounds.{every_more, each_more, polys_bound}
-use Rattle.alg_criterion.proofs.Lists.{every_of, all_of, led_of, whole-led_of}
+use Rattle.alg_criterion.proofs.Lists.{every_of, all_of, whole-led_of}
 use Rattle.alg_criterion.proofs.Members.{has_mapped, has_from, all_has, every_at, contains_has, has_contains}
 use Rattle.alg_criterion.proofs.Values.{val, at-sum, at-product, at-times}
 use Rattle.alg_criterion.proofs.Cancelled.{s_polynomial_is}
 use Rattle.alg_criterion.proofs.Pairs.{polynomial_spans}
 use Rattle.alg_criterion.proofs.Restated.{from_spans}
 use Rattle.alg_criterion.proofs.Seeing.{led_at, seen}
-use Rattle.alg_criterion.proofs.Linked.{IsFine, IsDone, After, run_fine}
-
-use Rattle.alg_criterion.proofs.Running.{IsP, canonical_keys, power_list, length-powers, power_in, not_above, B, b, ps, given, at_end}
+use Rattle.alg_criterion.proofs.Linked.{IsDone}
+use Rattle.alg_criterion.proofs.Running.{IsP, canonical_keys, power_list, length-powers, power_in, not_above, B, b, at_end}
 
 has_hyps : (hs : List Polynomial) → Every (λ h. Has h hs) hs
 has_hyps [] = tt

@@ -1,5 +1,5 @@
 -- What stands at a monomial of multiples, sums and differences.
-use Rattle.std.specs.Prelude.{◌≡◌, Bool, true, false, cond, List, [], ◌∷◌, ◌++◌, ℤ, pos, ◌+ℤ◌, ◌*ℤ◌}
+use Rattle.std.specs.Prelude.{◌≡◌, true, false, cond, [], ◌∷◌, ◌++◌, ℤ, pos, ◌+ℤ◌, ◌*ℤ◌}
 use Rattle.std.proofs.Common.{refl, sym, ap, ◌∙◌, append-nil}
 use lib.IntN.{neg_ℤ}
 use Rattle.std.specs.Ordering.{nat_cmp}
@@ -8,7 +8,7 @@ use Rattle.std.specs.FinMap.{nat_cmp-IsAntisymmetric}
 use Rattle.alg_mono.specs.FiniteMaps.{IsCanonical, Each, amount, row, products}
 use Rattle.alg_mono.specs.Numbers.{exponents, integers, is_zero}
 use Rattle.alg_mono.specs.Mono.{Monomial}
-use Rattle.alg_mono.specs.NumberedPolynomials.{Polynomial, sum_of, multiple_of, product_of, difference_of}
+use Rattle.alg_mono.specs.NumberedPolynomials.{Polynomial, sum_of, multiple_of, product_of}
 use Rattle.alg_mono.specs.Polynomials.{poly_neg}
 use Rattle.alg_mono.proofs.Numbers.{integer_laws, is_zero_only, zero-*ℤ, one-*ℤ}
 use Rattle.alg_mono.proofs.Integers.{neg_ℤ-*ℤ}
