@@ -29,3 +29,4 @@ mod Reducing
 mod Linked
 mod Running
 mod Theorem
+mod Ends

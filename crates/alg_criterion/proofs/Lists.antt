@@ -1,8 +1,9 @@
 -- What holds of each of a list, by its places and by recursion.
-use Rattle.std.specs.Prelude.{◌≡◌, ◌≢◌, List, [], ◌∷◌, pos, All}
-use Rattle.std.proofs.Common.{refl}
+use Rattle.std.specs.Prelude.{◌≡◌, ◌≢◌, ℕ, ◌+◌, ◌<◌, List, [], ◌∷◌, pos, All, length, get_or, take}
+use Rattle.std.proofs.Common.{refl, sym, subst}
+use Rattle.std.proofs.lemmas.List.{take_more}
 use Rattle.std.specs.List.{Contains}
-use Rattle.std.proofs.lemmas.List.Elements.{All-nil, All-cons, All-head, All-tail, All-contains_itself}
+use Rattle.std.proofs.lemmas.List.Elements.{All-nil, All-cons, All-head, All-tail, All-contains_itself, All-push}
 use Rattle.alg_mono.specs.Mono.{Monomial}
 use Rattle.alg_mono.specs.NumberedPolynomials.{Polynomial}
 use Rattle.alg_groebner.specs.Leads.{lead}
@@ -19,6 +20,12 @@ all_of P (x ∷ xs) h = All-cons P x xs h.0 (all_of P xs h.1)
 -- each of a list is in it
 pub every_itself : {A : Type 0} (xs : List A) → Every (Contains xs) xs
 every_itself xs = every_of (Contains xs) xs (All-contains_itself xs)
+
+-- one more of those up to a place
+pub so_far : {A : Type 0} (P : A → Type 0) (xs : List A) (i : ℕ) (x : A) → i < length xs → x ≡ get_or xs i x →
+    All P (take i xs) → P x → All P (take (i + 1) xs)
+so_far P xs i x h e a p =
+    subst (All P) (sym (take_more xs i x h)) (All-push P (take i xs) (get_or xs i x) a (subst P e p))
 
 -- ---- a polynomial with its lead apart
 abbrev pub led_of : Polynomial → Led Monomial

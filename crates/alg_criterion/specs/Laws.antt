@@ -49,11 +49,15 @@ LeadsDivide =
     (p : Polynomial) → IsPolynomial nat_cmp integers p → p ≢ [] → IsCombination basis p →
     (f : Polynomial) × Contains basis f × (reduces f p ≡ true)
 
--- where nothing is left to do no nonzero multiple of a power of g is a sum of products with the hypotheses
+-- no nonzero multiple of a power of g, from 1 up to this one, is a sum of products with the hypotheses
+abbrev pub HasNone : List Polynomial → Polynomial → ℕ → Type 0
+HasNone hyps g greatest =
+    (c : ℤ) → c ≢ pos 0 → (r : ℕ) → 1 ≤ r → r ≤ greatest →
+    (factors : List Polynomial) → All (λ p. IsPolynomial nat_cmp integers p) factors →
+    multiple_of c [] (power_of g r) ≢ sum_of_products factors hyps
+
+-- where nothing is left to do there is none
 abbrev pub NoneExists : Type 0
 NoneExists =
     (hyps : List Polynomial) (g : Polynomial) (power limit : ℕ) (last : State) (r : ℕ) →
-    IsRun hyps g power limit last (NoneUpTo r) →
-    (c : ℤ) → c ≢ pos 0 → (n : ℕ) → 1 ≤ n → n ≤ r →
-    (factors : List Polynomial) → All (λ p. IsPolynomial nat_cmp integers p) factors →
-    multiple_of c [] (power_of g n) ≢ sum_of_products factors hyps
+    IsRun hyps g power limit last (NoneUpTo r) → HasNone hyps g r

@@ -5,3 +5,9 @@
 #![tactic(auto)]
 
 pub mod laws;
+mod sure;
+
+pub use alg_groebner::Verdict;
+pub use alg_mono::Overrun;
+pub use alg_poly::Poly;
+pub use sure::search_sure;
