@@ -39,11 +39,13 @@ fn answer_one(alloc: Global, file: &File, goal: &Goal) -> Result<Answer, NoMemor
     alg_reify::laws::no_is_over_the_table();
     alg_reify::laws::no_is_within_range();
     match decide_ring(alloc, file, &goal.equation) {
-        Ok(RingDecision {
-            answer,
-            left: _left,
-            right: _right,
-        }) => match answer {
+        Ok(
+            RingDecision {
+                answer,
+                left: _left,
+                right: _right,
+            },
+        ) => match answer {
             RingAnswer::Proved => Ok(Answer::Proved {
                 conditions: Seq::from_vec(Vec::new(alloc)),
             }),

@@ -70,7 +70,7 @@ module _ {K : Type 0} {cmp : K → K → Ordering} (o : IsTotalOrder cmp) (anti 
       none n = omega arith
   power-add p (suc m) n =
       ap (power cmp p) (next m n) ∙ ap (times cmp p) (power-add p m n) ∙ sym (product_sum.assoc p (power cmp p m)
-          (power cmp p n))
+      (power cmp p n))
     where
       next : (m n : ℕ) → suc m + n ≡ suc (m + n)
       next m n = omega arith

@@ -65,8 +65,11 @@ module _ (atoms : List Atom) where
 
   product_of : (m : Factors) → Each Of m → Of (product m)
   product_of [] h = record {
-    polynomial = record { canonical = record { rises = tt; no_none = tt }; monomials =
-        (record { rises = tt; no_none = tt }, tt) };
+    polynomial = record {
+      canonical = record { rises = tt; no_none = tt };
+      monomials =
+          (record { rises = tt; no_none = tt }, tt);
+    };
     held = (tt, tt);
   }
   product_of (e ∷ m) h = times_of (power_poly e.0 e.1) (product m) (power_of e.0 e.1 h.0) (product_of m h.1)

@@ -164,9 +164,9 @@ module _ (atoms : List Atom) where
           quotient =
               quotient_rule (is_unit atom_cmp b.top)
               ∙ ap (λ unit. worse (product_outcome ((F a).top ∷ (all_factors (F b).below ++ cond unit
-                  ((F b).top ∷ []) [])))
+              ((F b).top ∷ []) [])))
               (below_outcome (frac_quotient nat_cmp unit (F a) (F b)).below))
-                  (numbering_keeps_tests atoms b.top g.top).unit;
+              (numbering_keeps_tests atoms b.top g.top).unit;
           power =
               λ n.
               let top = is_like atoms a.top h.top in
