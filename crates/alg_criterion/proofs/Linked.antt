@@ -59,7 +59,8 @@ module _ (b : ℕ) where
   s_at (e ∷ p) [] np nq ip iq = absurd (nq refl)
   s_at (e ∷ p) (f ∷ q) np nq ip iq = s_polynomial_is b (led_of (e ∷ p)) (led_of (f ∷ q)) ip iq
 
-module _ (b : ℕ) (hyps powers : List Polynomial) (hyps_ok : Every (IsPoly falling mono_times mono_over (IsWithin b)) hyps)
+module _ (b : ℕ) (hyps powers : List Polynomial) (hyps_ok : Every (IsPoly falling mono_times mono_over (IsWithin b))
+    hyps)
     (powers_ok : Every (IsPoly falling mono_times mono_over (IsWithin b)) powers) where
   -- the state is reached
   pub record IsFine (st : State) : Type 0 where
@@ -110,7 +111,8 @@ module _ (b : ℕ) (hyps powers : List Polynomial) (hyps_ok : Every (IsPoly fall
     more_lines p = ap (λ (xs : List Polynomial). xs ++ p ∷ []) f.lines ∙ append_assoc hyps f.made (p ∷ [])
 
     -- rule 2
-    goal_after : (r j : ℕ) → first_reducible st.lines st.basis 0 st.remainders ≡ Some (r, j) → IsFine (goal_reduced st r j)
+    goal_after : (r j : ℕ) → first_reducible st.lines st.basis 0 st.remainders ≡ Some (r, j) →
+        IsFine (goal_reduced st r j)
     unfolding stepped
     goal_after r j e =
         let says = reducible_says st.lines st.basis st.remainders 0 r j e in
@@ -125,13 +127,19 @@ module _ (b : ℕ) (hyps powers : List Polynomial) (hyps_ok : Every (IsPoly fall
           made = f.made;
           reached = steps (seen hyps st f.made) f.reached (rests (goal_reduced st r j))
               (set_steps b basis st.remainders (λ g. g.rest) r y (record { rest = []; steps = [] })
-              (λ l. inr (led_at st.lines j, h, reduct_at b g.rest q (rest_is st.remainders (λ g. g.rest) i.rests r (record { rest = []; steps = [] }) l) (i.line (led_at st.lines j) h) test)));
+              (λ l. inr (
+                led_at st.lines j,
+                h,
+                reduct_at b g.rest q (rest_is st.remainders (λ g. g.rest) i.rests r
+                    (record { rest = []; steps = [] }) l) (i.line (led_at st.lines j) h) test,
+              )));
           lines = f.lines;
           given = f.given;
           count = length-set st.remainders r y ∙ f.count;
         }
       where
-        rest_is : {A : Type 0} (gs : List A) (rest : A → Polynomial) → Every (IsP b) (map rest gs) → (r : ℕ) (d : A) → r < length gs →
+        rest_is : {A : Type 0} (gs : List A) (rest : A → Polynomial) → Every (IsP b) (map rest gs) →
+            (r : ℕ) (d : A) → r < length gs →
             IsP b (rest (get_or gs r d))
         rest_is [] rest h r d l = absurd (omega arith)
         rest_is (g ∷ gs) rest h zero d l = h.0
@@ -156,7 +164,8 @@ module _ (b : ℕ) (hyps powers : List Polynomial) (hyps_ok : Every (IsPoly fall
         let q = line_at st.lines j in
         let h = member j (found_in (λ n. reduces (line_at st.lines n) p) st.basis j t) in
         let cur = ap (current_of st.lines) e in
-        let d = reduct_at b p q (i.current p cur) (i.line (led_at st.lines j) h) (reducer_says st.lines st.basis p j t) in
+        let d = reduct_at b p q (i.current p cur) (i.line (led_at st.lines j) h)
+        (reducer_says st.lines st.basis p j t) in
         let new = (reduced p q).poly in
         record {
           made = f.made ++ new ∷ [];

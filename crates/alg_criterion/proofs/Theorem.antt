@@ -127,8 +127,10 @@ module _ (hyps : List Polynomial) (g : Polynomial) (power limit : ℕ) (last : S
       let i = inv (monomials n) hyps (power_list g 1 power) hyps_in powers_in s done.fine.reached in
       let jf = i.line f hf in
       let jg = i.line g' hg in
-      let below = all_below (monomials n) hyps (power_list g 1 power) hyps_in powers_in s done.fine.reached done.over f g' hf hg in
-      let low = λ (v : Monomial). Under falling mono_times (IsWithin n) (lcm_of falling mono_times (IsWithin n) InBasis mono_over f g') v in
+      let below = all_below (monomials n) hyps (power_list g 1 power)
+      hyps_in powers_in s done.fine.reached done.over f g' hf hg in
+      let low = λ (v : Monomial). Under falling mono_times (IsWithin n)
+      (lcm_of falling mono_times (IsWithin n) InBasis mono_over f g') v in
       from_spans (basis_of last) InBasis member n low
       (λ v. grevlex nat_cmp v (lead_lcm (whole f) (whole g')) ≡ Less)
       (λ v h. subst (λ w. grevlex nat_cmp v w ≡ Less) (times_comm (mono_over g'.lead f.lead) f.lead) h)
