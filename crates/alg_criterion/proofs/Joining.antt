@@ -63,13 +63,17 @@ module _ (lines : List Polynomial) where
         | false ↦ λ e.
             let h = insert_self pair_cmp (led_pair lines) same_pair xs (pair_of lines i k) in
             elim (cases_lt i k) [
-              | inl l ↦ inl (subst (λ n. Has (led_at lines n, led_at lines k) (leds (insert_key pair_cmp xs (pair_of lines i k))))
+              | inl l ↦ inl (subst (λ n. Has (led_at lines n, led_at lines k)
+                  (leds (insert_key pair_cmp xs (pair_of lines i k))))
                   (let a : min i k ≡ i = omega arith in a)
-                  (subst (λ n. Has (led_at lines (min i k), led_at lines n) (leds (insert_key pair_cmp xs (pair_of lines i k))))
+                  (subst (λ n. Has (led_at lines (min i k), led_at lines n)
+                  (leds (insert_key pair_cmp xs (pair_of lines i k))))
                   (let c : max i k ≡ k = omega arith in c) h))
-              | inr l ↦ inr (inl (subst (λ n. Has (led_at lines n, led_at lines i) (leds (insert_key pair_cmp xs (pair_of lines i k))))
+              | inr l ↦ inr (inl (subst (λ n. Has (led_at lines n, led_at lines i)
+                  (leds (insert_key pair_cmp xs (pair_of lines i k))))
                   (let a : min i k ≡ k = omega arith in a)
-                  (subst (λ n. Has (led_at lines (min i k), led_at lines n) (leds (insert_key pair_cmp xs (pair_of lines i k))))
+                  (subst (λ n. Has (led_at lines (min i k), led_at lines n)
+                  (leds (insert_key pair_cmp xs (pair_of lines i k))))
                   (let c : max i k ≡ i = omega arith in c) h)))
             ]
       ] refl

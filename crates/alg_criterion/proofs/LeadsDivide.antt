@@ -59,7 +59,8 @@ module _ (basis : List Polynomial) where
   pairs_bound : ArePairsBelow basis → (b : ℕ) × Every (λ f. AreWithin f b) basis
   pairs_bound below =
       one_bound AreWithin
-      (λ f b c h w. every_more (λ g. IsPairWithin f g b) (λ g. IsPairWithin f g c) (λ g p. pair_more f g b c h p) basis w)
+      (λ f b c h w. every_more (λ g. IsPairWithin f g b) (λ g. IsPairWithin f g c) (λ g p. pair_more f g b c h p)
+      basis w)
       basis (every_more (Contains basis) (λ f. (b : ℕ) × AreWithin f b) row basis (every_itself basis))
     where
       one : (f g : Polynomial) → Contains basis f → Contains basis g → (b : ℕ) × IsPairWithin f g b
@@ -71,7 +72,8 @@ module _ (basis : List Polynomial) where
       row : (f : Polynomial) → Contains basis f → (b : ℕ) × AreWithin f b
       row f hf =
           one_bound (IsPairWithin f) (λ g b c h p. pair_more f g b c h p) basis
-          (every_more (Contains basis) (λ g. (b : ℕ) × IsPairWithin f g b) (λ g hg. one f g hf hg) basis (every_itself basis))
+          (every_more (Contains basis) (λ g. (b : ℕ) × IsPairWithin f g b) (λ g hg. one f g hf hg) basis
+          (every_itself basis))
 
   module _ (lines : All IsBasisLine basis) where
     some : (f : Polynomial) → Contains basis f → f ≢ []

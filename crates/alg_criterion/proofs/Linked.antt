@@ -24,42 +24,27 @@ use Rattle.alg_groebner.proofs.Adding.{is_less, not_less}
 use Rattle.alg_groebner.proofs.Chosen.{reducer_says, reducible_says}
 use Rattle.alg_groebner.proofs.Keeping.{goes_kept}
 use Rattle.alg_criterion.proofs.Spans.{Every, Led, whole, IsLine}
-use Rattle.alg_criterion.proofs.Machine.{Has, IsPoly, IsReduct, IsSPolynomial, AreCoprime, Reached, steps, drops, reduces as reduces_move, joins, takes, pairs_up, IsOver}
+use Rattle.alg_criterion.proofs.Machine.{Has, IsPoly, AreCoprime, Reached, steps, drops, reduces as reduces_move, joins, takes, pairs_up, IsOver}
 use Rattle.alg_criterion.proofs.Numbered.{IsWithin, mono_times, mono_over, falling}
 use Rattle.alg_criterion.proofs.Instance.{monomials}
 use Rattle.alg_criterion.proofs.Invariant.{Inv, inv}
 use Rattle.alg_criterion.proofs.Remains.{poly_line}
-use Rattle.alg_criterion.proofs.Lists.{led_of, whole-led_of, lead-led_of}
+use Rattle.alg_criterion.proofs.Lists.{whole-led_of, lead-led_of}
 use Rattle.alg_criterion.proofs.Members.{has_mapped, has_from, has_in, found_in, insert_self, insert_grows, insert_split}
-use Rattle.alg_criterion.proofs.Cancelled.{reduct_is, s_polynomial_is}
+use Rattle.alg_criterion.proofs.Cancelled.{reduct_at, s_at}
 use Rattle.alg_criterion.proofs.Commons.{are_coprime}
 use Rattle.alg_criterion.proofs.Seeing.{led_at, led_pair, current_of, rests, seen, line_seen}
 use Rattle.alg_criterion.proofs.Joining.{same_led, pairs_grow, pairs_meet}
 use Rattle.alg_criterion.proofs.Reducing.{reducible_in, set_steps, all_reduced}
 
-module _ (b : ℕ) where
-  abbrev IsP : Polynomial → Type 0
-  IsP p = IsPoly falling mono_times mono_over (IsWithin b) p
+abbrev IsP : ℕ → Polynomial → Type 0
+IsP b p = IsPoly falling mono_times mono_over (IsWithin b) p
 
-  abbrev IsL : Led Monomial → Type 0
-  IsL l = IsLine falling mono_times (IsWithin b) l
+abbrev IsL : ℕ → Led Monomial → Type 0
+IsL b l = IsLine falling mono_times (IsWithin b) l
 
-  -- what is made, for polynomials as lists
-  reduct_at : (p q : Polynomial) → IsP p → IsL (led_of q) → reduces q p ≡ true →
-      IsReduct falling mono_times mono_over (IsWithin b) p (led_of q) (reduced p q).poly
-  reduct_at p [] ip iq e = absurd (let f : false ≡ true = e in grind arith)
-  reduct_at [] (f ∷ q) ip iq e = absurd (let f : false ≡ true = e in grind arith)
-  reduct_at (e ∷ p) (f ∷ q) ip iq t =
-      let l : Led Monomial = record { lead = e.0; leading = e.1; rest = p } in
-      reduct_is b l (led_of (f ∷ q)) (poly_line (monomials b) l ip) iq t
-
-  s_at : (p q : Polynomial) → p ≢ [] → q ≢ [] → IsL (led_of p) → IsL (led_of q) →
-      IsSPolynomial falling mono_times mono_over (IsWithin b) (led_of p) (led_of q) (s_polynomial p q).poly
-  s_at [] q np nq ip iq = absurd (np refl)
-  s_at (e ∷ p) [] np nq ip iq = absurd (nq refl)
-  s_at (e ∷ p) (f ∷ q) np nq ip iq = s_polynomial_is b (led_of (e ∷ p)) (led_of (f ∷ q)) ip iq
-
-module _ (b : ℕ) (hyps powers : List Polynomial) (hyps_ok : Every (IsPoly falling mono_times mono_over (IsWithin b)) hyps)
+module _ (b : ℕ) (hyps powers : List Polynomial) (hyps_ok : Every (IsPoly falling mono_times mono_over (IsWithin b))
+    hyps)
     (powers_ok : Every (IsPoly falling mono_times mono_over (IsWithin b)) powers) where
   -- the state is reached
   pub record IsFine (st : State) : Type 0 where
@@ -110,7 +95,8 @@ module _ (b : ℕ) (hyps powers : List Polynomial) (hyps_ok : Every (IsPoly fall
     more_lines p = ap (λ (xs : List Polynomial). xs ++ p ∷ []) f.lines ∙ append_assoc hyps f.made (p ∷ [])
 
     -- rule 2
-    goal_after : (r j : ℕ) → first_reducible st.lines st.basis 0 st.remainders ≡ Some (r, j) → IsFine (goal_reduced st r j)
+    goal_after : (r j : ℕ) → first_reducible st.lines st.basis 0 st.remainders ≡ Some (r, j) →
+        IsFine (goal_reduced st r j)
     unfolding stepped
     goal_after r j e =
         let says = reducible_says st.lines st.basis st.remainders 0 r j e in
@@ -125,13 +111,19 @@ module _ (b : ℕ) (hyps powers : List Polynomial) (hyps_ok : Every (IsPoly fall
           made = f.made;
           reached = steps (seen hyps st f.made) f.reached (rests (goal_reduced st r j))
               (set_steps b basis st.remainders (λ g. g.rest) r y (record { rest = []; steps = [] })
-              (λ l. inr (led_at st.lines j, h, reduct_at b g.rest q (rest_is st.remainders (λ g. g.rest) i.rests r (record { rest = []; steps = [] }) l) (i.line (led_at st.lines j) h) test)));
+              (λ l. inr (
+                led_at st.lines j,
+                h,
+                reduct_at b g.rest q (rest_is st.remainders (λ g. g.rest) i.rests r
+                    (record { rest = []; steps = [] }) l) (i.line (led_at st.lines j) h) test,
+              )));
           lines = f.lines;
           given = f.given;
           count = length-set st.remainders r y ∙ f.count;
         }
       where
-        rest_is : {A : Type 0} (gs : List A) (rest : A → Polynomial) → Every (IsP b) (map rest gs) → (r : ℕ) (d : A) → r < length gs →
+        rest_is : {A : Type 0} (gs : List A) (rest : A → Polynomial) → Every (IsP b) (map rest gs) →
+            (r : ℕ) (d : A) → r < length gs →
             IsP b (rest (get_or gs r d))
         rest_is [] rest h r d l = absurd (omega arith)
         rest_is (g ∷ gs) rest h zero d l = h.0
@@ -156,7 +148,8 @@ module _ (b : ℕ) (hyps powers : List Polynomial) (hyps_ok : Every (IsPoly fall
         let q = line_at st.lines j in
         let h = member j (found_in (λ n. reduces (line_at st.lines n) p) st.basis j t) in
         let cur = ap (current_of st.lines) e in
-        let d = reduct_at b p q (i.current p cur) (i.line (led_at st.lines j) h) (reducer_says st.lines st.basis p j t) in
+        let d = reduct_at b p q (i.current p cur) (i.line (led_at st.lines j) h)
+        (reducer_says st.lines st.basis p j t) in
         let new = (reduced p q).poly in
         record {
           made = f.made ++ new ∷ [];

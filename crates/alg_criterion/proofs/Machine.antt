@@ -1,4 +1,5 @@
--- The search, as far as its laws need it: which moves may be made, whatever their order. Lines are named by themselves, not by numbers.
+-- The search, as far as its laws need it: which moves may be made, whatever their order. Lines are named by
+-- themselves, not by numbers.
 use Rattle.std.specs.Prelude.{◌≡◌, ◌≢◌, List, [], ◌∷◌, ◌++◌, ℤ, pos, ◌*ℤ◌}
 use Rattle.std.proofs.Common.{◌⊎◌}
 use lib.IntN.{neg_ℤ}
@@ -51,7 +52,8 @@ module _ {M : Type 0} (cmp : M → M → Ordering) (times : M → M → M) (over
     pub old_is : old ≡ whole led
     pub divides : times by line.lead ≡ led.lead
     pub poly : IsPoly new
-    pub same : (q : M) → d *ℤ amount cmp integers.amounts q new ≡ amount cmp integers.amounts q (scale a old ++ row times ◌*ℤ◌ by (neg_ℤ b) (whole line))
+    pub same : (q : M) → d *ℤ amount cmp integers.amounts q new ≡
+        amount cmp integers.amounts q (scale a old ++ row times ◌*ℤ◌ by (neg_ℤ b) (whole line))
 
   -- d*new is the S-polynomial a*m*f - b*n*g
   pub record IsSPolynomial (f g : Led M) (new : List (M × ℤ)) : Type 0 where
@@ -62,7 +64,9 @@ module _ {M : Type 0} (cmp : M → M → Ordering) (times : M → M → M) (over
     pub d_some : d ≢ pos 0
     pub balance : a *ℤ f.leading ≡ b *ℤ g.leading
     pub poly : IsPoly new
-    pub same : (q : M) → d *ℤ amount cmp integers.amounts q new ≡ amount cmp integers.amounts q (row times ◌*ℤ◌ (over g.lead f.lead) a (whole f) ++ row times ◌*ℤ◌ (over f.lead g.lead) (neg_ℤ b) (whole g))
+    pub same : (q : M) → d *ℤ amount cmp integers.amounts q new ≡
+        amount cmp integers.amounts q (row times ◌*ℤ◌ (over g.lead f.lead) a (whole f)
+        ++ row times ◌*ℤ◌ (over f.lead g.lead) (neg_ℤ b) (whole g))
 
   -- neither has a part of the other
   abbrev pub AreCoprime : M → M → Type 0
@@ -72,26 +76,42 @@ module _ {M : Type 0} (cmp : M → M → Ordering) (times : M → M → M) (over
   IsStep basis old new = (old ≡ new) ⊎ ((l : Led M) × Has l basis × IsReduct old l new)
 
   pub data Reached (hyps powers : List (List (M × ℤ))) : Seen M → Type 0 where
-    start : Reached hyps powers (record { basis = []; pairs = []; inputs = hyps; remainders = powers; current = None; made = [] })
+    start : Reached hyps powers (record {
+      basis = [];
+      pairs = [];
+      inputs = hyps;
+      remainders = powers;
+      current =
+          None;
+      made = [];
+    })
     -- rule 2
-    steps : (s : Seen M) → Reached hyps powers s → (new : List (List (M × ℤ))) → Pairwise (IsStep s.basis) s.remainders new →
+    steps : (s : Seen M) → Reached hyps powers s → (new : List (List (M × ℤ))) →
+        Pairwise (IsStep s.basis) s.remainders new →
         Reached hyps powers (record s { remainders = new })
     -- rule 3
-    drops : (s : Seen M) → Reached hyps powers s → s.current ≡ Some [] → Reached hyps powers (record s { current = None })
+    drops : (s : Seen M) → Reached hyps powers s → s.current ≡ Some [] →
+        Reached hyps powers (record s { current = None })
     -- rule 4
-    reduces : (s : Seen M) → Reached hyps powers s → (old new : List (M × ℤ)) → s.current ≡ Some old → (l : Led M) → Has l s.basis → IsReduct old l new →
+    reduces : (s : Seen M) → Reached hyps powers s → (old new : List (M × ℤ)) → s.current ≡ Some old → (l : Led M) →
+        Has l s.basis → IsReduct old l new →
         Reached hyps powers (record s { current = Some new; made = s.made ++ new ∷ [] })
     -- rule 5
-    joins : (s : Seen M) → Reached hyps powers s → (l : Led M) → s.current ≡ Some (whole l) → (wider : List (Led M)) → Has l wider → ((k : Led M) → Has k s.basis → Has k wider) → ((k : Led M) → Has k wider → (k ≡ l) ⊎ Has k s.basis) →
+    joins : (s : Seen M) → Reached hyps powers s → (l : Led M) → s.current ≡ Some (whole l) →
+        (wider : List (Led M)) → Has l wider → ((k : Led M) → Has k s.basis → Has k wider) →
+        ((k : Led M) → Has k wider → (k ≡ l) ⊎ Has k s.basis) →
         (more : List (Led M × Led M)) → ((p : Led M × Led M) → Has p s.pairs → Has p more) →
         ((f : Led M) → Has f s.basis → Has (f, l) more ⊎ Has (l, f) more ⊎ AreCoprime f.lead l.lead) →
         Reached hyps powers (record s { basis = wider; pairs = more; current = None })
     -- rule 6
-    takes : (s : Seen M) → Reached hyps powers s → s.current ≡ None → (h : List (M × ℤ)) (rest : List (List (M × ℤ))) → s.inputs ≡ h ∷ rest →
+    takes : (s : Seen M) → Reached hyps powers s → s.current ≡ None →
+        (h : List (M × ℤ)) (rest : List (List (M × ℤ))) → s.inputs ≡ h ∷ rest →
         Reached hyps powers (record s { inputs = rest; current = Some h })
     -- rule 7
-    pairs_up : (s : Seen M) → Reached hyps powers s → s.current ≡ None → (f g : Led M) → Has f s.basis → Has g s.basis → (rest : List (Led M × Led M)) →
-        ((p : Led M × Led M) → Has p s.pairs → (p ≡ (f, g)) ⊎ Has p rest) → (new : List (M × ℤ)) → IsSPolynomial f g new →
+    pairs_up : (s : Seen M) → Reached hyps powers s → s.current ≡ None → (f g : Led M) → Has f s.basis →
+        Has g s.basis → (rest : List (Led M × Led M)) →
+        ((p : Led M × Led M) → Has p s.pairs → (p ≡ (f, g)) ⊎ Has p rest) → (new : List (M × ℤ)) →
+        IsSPolynomial f g new →
         Reached hyps powers (record s { pairs = rest; current = Some new; made = s.made ++ new ∷ [] })
 
   -- a polynomial that no basis line reduces
@@ -119,7 +139,5 @@ module _ {M : Type 0} (cmp : M → M → Ordering) (times : M → M → M) (over
     pub some : multiple ≢ pos 0
     pub factors : List (List (M × ℤ))
     pub ok : Every (Each Ok) factors
-    pub same : (q : M) → multiple *ℤ amount cmp integers.amounts q p ≡ amount cmp integers.amounts q (combined factors hyps)
-
-  abbrev pub NoneExists : Type 0
-  NoneExists = (hyps powers : List (List (M × ℤ))) → Every IsPoly hyps → Every IsPoly powers → (s : Seen M) → Reached hyps powers s → IsOver s → Every (λ p. IsCombination hyps p → ⊥) powers
+    pub same : (q : M) → multiple *ℤ amount cmp integers.amounts q p ≡
+        amount cmp integers.amounts q (combined factors hyps)

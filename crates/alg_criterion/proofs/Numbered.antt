@@ -27,4 +27,5 @@ pub record IsWithin (n : ℕ) (m : Mono) : Type 0 where
 
 -- over the first n atoms what holds of a monomial where it holds of all lesser ones holds of all
 abbrev pub Descends : ℕ → Type 1
-Descends n = (P : Mono → Type 0) → ((w : Mono) → IsWithin n w → ((v : Mono) → IsWithin n v → falling w v ≡ Less → P v) → P w) → (w : Mono) → IsWithin n w → P w
+Descends n = (P : Mono → Type 0) → ((w : Mono) → IsWithin n w →
+    ((v : Mono) → IsWithin n v → falling w v ≡ Less → P v) → P w) → (w : Mono) → IsWithin n w → P w

@@ -25,7 +25,8 @@ crossing : (a f b g x y : ℤ) → a *ℤ f ≡ b *ℤ g →
     a *ℤ ((g *ℤ x) +ℤ (neg_ℤ f *ℤ y)) ≡ g *ℤ ((a *ℤ x) +ℤ (neg_ℤ b *ℤ y))
 crossing a f b g x y e =
     *ℤ_dist a (g *ℤ x) (neg_ℤ f *ℤ y)
-    ∙ (λ i. mul_left a g x i +ℤ (times_neg a f y ∙ ap (λ z. neg_ℤ (z *ℤ y)) (e ∙ *ℤ_comm b g) ∙ sym (times_neg g b y)) i)
+    ∙ (λ i. mul_left a g x i +ℤ (times_neg a f y ∙ ap (λ z. neg_ℤ (z *ℤ y)) (e ∙ *ℤ_comm b g)
+    ∙ sym (times_neg g b y)) i)
     ∙ sym (*ℤ_dist g (a *ℤ x) (neg_ℤ b *ℤ y))
 
 module _ (b : ℕ) (In : Led Monomial → Type 0) (f g : Led Monomial) (jf : IsLine falling mono_times (IsWithin b) f)
@@ -44,7 +45,8 @@ module _ (b : ℕ) (In : Led Monomial → Type 0) (f g : Led Monomial) (jf : IsL
       let x = val q (times_row m (pos 1) (whole f)) in
       let y = val q (times_row n (pos 1) (whole g)) in
       let one = at-row_one falling mono_times q in
-      ap (λ z. S.a *ℤ z) (at-append falling q (times_row m g.leading (whole f)) (times_row n (neg_ℤ f.leading) (whole g))
+      ap (λ z. S.a *ℤ z) (at-append falling q (times_row m g.leading (whole f))
+      (times_row n (neg_ℤ f.leading) (whole g))
       ∙ (λ i. one m g.leading (whole f) i +ℤ one n (neg_ℤ f.leading) (whole g) i))
       ∙ crossing S.a f.leading S.b g.leading x y S.balance
       ∙ ap (λ z. g.leading *ℤ z) (sym (S.same q

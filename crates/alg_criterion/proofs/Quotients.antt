@@ -66,7 +66,8 @@ pub same_mono : (b : ℕ) (m n : Mono) → IsWithin b m → IsWithin b n →
 same_mono b m n hm hn e = same_canonical exponent_laws o anti m n hm.canonical hn.canonical e
 
 -- each common multiple is one of the least
-pub lcm_least : (b : ℕ) (f g m n : Mono) → IsWithin b f → IsWithin b g → IsWithin b m → IsWithin b n → mono_times m f ≡ mono_times n g →
+pub lcm_least : (b : ℕ) (f g m n : Mono) → IsWithin b f → IsWithin b g → IsWithin b m → IsWithin b n →
+    mono_times m f ≡ mono_times n g →
     (u : Mono) × IsWithin b u × (m ≡ mono_times u (mono_over g f)) × (n ≡ mono_times u (mono_over f g))
 lcm_least b f g m n hf hg hm hn e =
     let a = mono_over g f in
@@ -79,14 +80,31 @@ lcm_least b f g m n hf hg hm hn e =
     λ q. sym (exponent-times q m f) ∙ ap (exponent nat_cmp q) e ∙ exponent-times q n g in (
       u,
       hu,
-      same_mono b m (mono_times u a) hm (within_times b u a hu ha) (λ q. omega (arith, balance q, exponent-times q u a, exponent-over q b m a hm, exponent-over q b g f hg)),
-      same_mono b n (mono_times u c) hn (within_times b u c hu hc) (λ q. omega (arith, balance q, exponent-times q u c, exponent-over q b m a hm, exponent-over q b g f hg, exponent-over q b f g hf)),
+      same_mono b m (mono_times u a) hm (within_times b u a hu ha)
+          (λ q. omega (arith, balance q, exponent-times q u a, exponent-over q b m a hm, exponent-over q b g f hg)),
+      same_mono b n (mono_times u c) hn (within_times b u c hu hc)
+          (λ q. omega (
+            arith,
+            balance q,
+            exponent-times q u c,
+            exponent-over q b m a hm,
+            exponent-over q b g f hg,
+            exponent-over q b f g hf,
+          )),
     )
 
 -- the two cofactors give one monomial
-pub lcm_both : (b : ℕ) (f g : Mono) → IsWithin b f → IsWithin b g → mono_times (mono_over g f) f ≡ mono_times (mono_over f g) g
+pub lcm_both : (b : ℕ) (f g : Mono) → IsWithin b f → IsWithin b g →
+    mono_times (mono_over g f) f ≡ mono_times (mono_over f g) g
 lcm_both b f g hf hg =
     let ha = within_over b g f hg hf in
     let hc = within_over b f g hf hg in
-    same_mono b (mono_times (mono_over g f) f) (mono_times (mono_over f g) g) (within_times b (mono_over g f) f ha hf) (within_times b (mono_over f g) g hc hg)
-    (λ q. omega (arith, exponent-times q (mono_over g f) f, exponent-times q (mono_over f g) g, exponent-over q b g f hg, exponent-over q b f g hf))
+    same_mono b (mono_times (mono_over g f) f) (mono_times (mono_over f g) g)
+    (within_times b (mono_over g f) f ha hf) (within_times b (mono_over f g) g hc hg)
+    (λ q. omega (
+      arith,
+      exponent-times q (mono_over g f) f,
+      exponent-times q (mono_over f g) g,
+      exponent-over q b g f hg,
+      exponent-over q b f g hf,
+    ))

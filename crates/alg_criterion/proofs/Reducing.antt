@@ -29,7 +29,8 @@ reducible_in lines basis (g ∷ gs) n r j e =
       | None ↦ λ t s. reducible_in lines basis gs (n + 1) r j s
     ] refl e
   where
-    here : (k : ℕ) → reducer lines basis g.rest ≡ Some k → ◌≡◌ {A = Option (ℕ × ℕ)} (Some (n, k)) (Some (r, j)) → Has j basis
+    here : (k : ℕ) → reducer lines basis g.rest ≡ Some k → ◌≡◌ {A = Option (ℕ × ℕ)} (Some (n, k)) (Some (r, j)) →
+        Has j basis
     here k t q =
         let first : ℕ × ℕ = (n, k) in
         let second : ℕ × ℕ = (r, j) in

@@ -144,7 +144,8 @@ module _ (hyps : List Polynomial) (g : Polynomial) (power limit : ℕ) (last : S
   comes_fine st e (too_great t) = (first_fine, tt, first)
   comes_fine st e (too_high t) = (first_fine, tt, first)
   comes_fine st e (runs t r) =
-      let f = run_fine b hyps ps B.hyps_ok B.powers_ok limit (first_state hyps (powers g 1 power)) st e r first first_fine in
+      let f = run_fine b hyps ps B.hyps_ok B.powers_ok limit (first_state hyps (powers g 1 power))
+      st e r first first_fine in
       (f.0, f.1, (runs_sound limit (first_state hyps (powers g 1 power)) st e r first).0)
 
   pub at_end : AtEnd last e

@@ -64,7 +64,8 @@ pairs_longer lines p (x ∷ xs) h =
 line_new : (lines : List Polynomial) (p : Polynomial) → line_at (lines ++ p ∷ []) (length lines + 1) ≡ p
 line_new lines p = get_or_push ([] ∷ lines) p [] (length lines + 1) (omega arith)
 
-pub line_seen : (hyps : List Polynomial) (st : State) (pairs : List Pair) (made : List Polynomial) (m : Monomial) (i : ℕ)
+pub line_seen : (hyps : List Polynomial) (st : State) (pairs : List Pair) (made : List Polynomial) (m : Monomial)
+    (i : ℕ)
     (n : Monomial) (j : ℕ) (p q : Polynomial) → All (IsThere st.lines) st.basis → All (HasBoth st.lines) pairs →
     let c = cancelled m p n q in
     seen hyps (with_line (without_pair st pairs) m i n j c) (made ++ c.poly ∷ []) ≡

@@ -73,7 +73,8 @@ module _ {M : Type 0} (cmp : M → M → Ordering) (times : M → M → M) (Ok :
 
     -- law 2: wherever two products of basis lines have one lead, their difference is below it
     abbrev pub ArePairsBelow : Type 0
-    ArePairsBelow = (f g : Led M) → In f → In g → (m n : M) → Ok m → Ok n → times m f.lead ≡ times n g.lead → Spans (Under (times m f.lead)) (crossed f g m n)
+    ArePairsBelow = (f g : Led M) → In f → In g → (m n : M) → Ok m → Ok n → times m f.lead ≡ times n g.lead →
+        Spans (Under (times m f.lead)) (crossed f g m n)
 
     -- the same for the least such products alone: the S-polynomial of every two lines is below the lcm of their leads.
     -- `over m n` is the part of m that n lacks, so that `times (over g f) f` is the lcm of f and g
@@ -100,8 +101,10 @@ abbrev pub LowOf : {M : Type 0} → (M → M → Ordering) → List (M × ℤ) �
 LowOf cmp [] v = ⊥
 LowOf cmp (e ∷ h) v = (cmp e.0 v ≡ Less) ⊎ (e.0 ≡ v)
 
--- what the theory asks of the monomials: `over m n` is the part of m that n lacks, `Ok` tells the monomials that count, as those in the first n atoms
-pub record IsMonomials {M : Type 0} (cmp : M → M → Ordering) (times over : M → M → M) (one : M) (Ok : M → Type 0) : Type 1 where
+-- what the theory asks of the monomials: `over m n` is the part of m that n lacks, `Ok` tells the monomials that
+-- count, as those in the first n atoms
+pub record IsMonomials {M : Type 0} (cmp : M → M → Ordering) (times over : M → M → M) (one : M) (Ok : M →
+    Type 0) : Type 1 where
   pub total : IsTotalOrder cmp
   pub anti : IsAntisymmetric cmp
   pub comm : (m n : M) → times m n ≡ times n m
@@ -112,5 +115,6 @@ pub record IsMonomials {M : Type 0} (cmp : M → M → Ordering) (times over : M
   pub ok_over : (m n : M) → Ok m → Ok n → Ok (over m n)
   pub keeps : (m n k : M) → Ok m → Ok n → cmp m n ≡ Less → cmp (times m k) (times n k) ≡ Less
   pub lcm_both : (f g : M) → Ok f → Ok g → times (over g f) f ≡ times (over f g) g
-  pub lcm_least : (f g m n : M) → Ok f → Ok g → Ok m → Ok n → times m f ≡ times n g → (u : M) × Ok u × (m ≡ times u (over g f)) × (n ≡ times u (over f g))
+  pub lcm_least : (f g m n : M) → Ok f → Ok g → Ok m → Ok n → times m f ≡ times n g →
+      (u : M) × Ok u × (m ≡ times u (over g f)) × (n ≡ times u (over f g))
   pub falls : (P : M → Type 0) → ((w : M) → Ok w → ((v : M) → Ok v → cmp w v ≡ Less → P v) → P w) → (w : M) → Ok w → P w

@@ -21,11 +21,12 @@ use Rattle.alg_criterion.proofs.Spans.{Every, Led, whole, Spans, Under, LowOf, l
 use Rattle.alg_criterion.proofs.Machine.{Has, combined, IsCombination as IsSumOfProducts}
 use Rattle.alg_criterion.proofs.Numbered.{IsWithin, mono_times, mono_over, falling}
 use Rattle.alg_criterion.proofs.Quotients.{times_comm}
-use Rattle.alg_criterion.proofs.Criterion.{every-append}
+use Rattle.alg_criterion.proofs.Summing.{every-append}
 use Rattle.alg_criterion.proofs.Rows.{at-append}
 use Rattle.alg_criterion.proofs.Instance.{monomials}
 use Rattle.alg_criterion.proofs.Sums.{Any}
-use Rattle.alg_criterion.proofs.Invariant.{inv, all_below, all_cleared, none_exists_at}
+use Rattle.alg_criterion.proofs.Invariant.{inv}
+use Rattle.alg_criterion.proofs.Ended.{all_below, all_cleared, none_exists_at}
 use Rattle.alg_criterion.proofs.Lines.{all_made, made_polys, sum_given}
 use Rattle.alg_criterion.proofs.Bounds.{every_more, each_more, polys_bound}
 use Rattle.alg_criterion.proofs.Lists.{every_of, all_of, whole-led_of}
@@ -127,8 +128,10 @@ module _ (hyps : List Polynomial) (g : Polynomial) (power limit : ℕ) (last : S
       let i = inv (monomials n) hyps (power_list g 1 power) hyps_in powers_in s done.fine.reached in
       let jf = i.line f hf in
       let jg = i.line g' hg in
-      let below = all_below (monomials n) hyps (power_list g 1 power) hyps_in powers_in s done.fine.reached done.over f g' hf hg in
-      let low = λ (v : Monomial). Under falling mono_times (IsWithin n) (lcm_of falling mono_times (IsWithin n) InBasis mono_over f g') v in
+      let below = all_below (monomials n) hyps (power_list g 1 power)
+      hyps_in powers_in s done.fine.reached done.over f g' hf hg in
+      let low = λ (v : Monomial). Under falling mono_times (IsWithin n)
+      (lcm_of falling mono_times (IsWithin n) InBasis mono_over f g') v in
       from_spans (basis_of last) InBasis member n low
       (λ v. grevlex nat_cmp v (lead_lcm (whole f) (whole g')) ≡ Less)
       (λ v h. subst (λ w. grevlex nat_cmp v w ≡ Less) (times_comm (mono_over g'.lead f.lead) f.lead) h)

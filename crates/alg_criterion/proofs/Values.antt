@@ -57,7 +57,8 @@ pub at-times : (q : Monomial) (c : ℤ) (p : Polynomial) → Each (λ m. IsCanon
 at-times q c p h = at-multiple q c [] p ∙ at-unit q c p h
 
 -- the negation comes into the factor
-at-row_neg : (q m : Monomial) (c : ℤ) (p : Polynomial) → neg_ℤ (val q (times_row m c p)) ≡ val q (times_row m (neg_ℤ c) p)
+at-row_neg : (q m : Monomial) (c : ℤ) (p : Polynomial) →
+    neg_ℤ (val q (times_row m c p)) ≡ val q (times_row m (neg_ℤ c) p)
 at-row_neg q m c p =
     let y = val q (times_row m (pos 1) p) in
     ap neg_ℤ (at-row_one falling mono_times q m c p) ∙ sym (neg_ℤ-*ℤ c y)
