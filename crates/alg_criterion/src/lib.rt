@@ -11,3 +11,6 @@ pub use alg_groebner::Verdict;
 pub use alg_mono::Overrun;
 pub use alg_poly::Poly;
 pub use sure::search_sure;
+
+#[cfg(test)]
+mod tests;
