@@ -1,5 +1,6 @@
 -- What the machine's moves make is as the laws need it.
-use Rattle.std.specs.Prelude.{◌≡◌, ◌≢◌, ℕ, true, not, [], ◌∷◌, ◌++◌, ℤ, pos, ◌*ℤ◌, ◌+ℤ◌}
+use Rattle.alg_criterion.proofs.Lists.{led_of}
+use Rattle.std.specs.Prelude.{false, ◌≡◌, ◌≢◌, ℕ, true, not, [], ◌∷◌, ◌++◌, ℤ, pos, ◌*ℤ◌, ◌+ℤ◌}
 use Rattle.std.proofs.Common.{refl, sym, ap, subst, ◌∙◌, T, arith}
 use lib.IntN.{neg_ℤ}
 use Rattle.std.specs.Int.RustNames.{unsigned_abs}
@@ -162,3 +163,25 @@ module _ (b : ℕ) where
             ∙ sym (at-append falling q (times_row (mono_over g.lead f.lead) c.a (whole f))
             (times_row (mono_over f.lead g.lead) (neg_ℤ c.b) (whole g)));
       }
+
+module _ (b : ℕ) where
+  abbrev pub IsP : Polynomial → Type 0
+  IsP p = IsPoly falling mono_times mono_over (IsWithin b) p
+
+  abbrev pub IsL : Led Monomial → Type 0
+  IsL l = IsLine falling mono_times (IsWithin b) l
+
+  -- what is made, for polynomials as lists
+  pub reduct_at : (p q : Polynomial) → IsP p → IsL (led_of q) → reduces q p ≡ true →
+      IsReduct falling mono_times mono_over (IsWithin b) p (led_of q) (reduced p q).poly
+  reduct_at p [] ip iq e = absurd (let f : false ≡ true = e in grind arith)
+  reduct_at [] (f ∷ q) ip iq e = absurd (let f : false ≡ true = e in grind arith)
+  reduct_at (e ∷ p) (f ∷ q) ip iq t =
+      let l : Led Monomial = record { lead = e.0; leading = e.1; rest = p } in
+      reduct_is b l (led_of (f ∷ q)) (record { canonical = ip.canonical; ok = ip.ok }) iq t
+
+  pub s_at : (p q : Polynomial) → p ≢ [] → q ≢ [] → IsL (led_of p) → IsL (led_of q) →
+      IsSPolynomial falling mono_times mono_over (IsWithin b) (led_of p) (led_of q) (s_polynomial p q).poly
+  s_at [] q np nq ip iq = absurd (np refl)
+  s_at (e ∷ p) [] np nq ip iq = absurd (nq refl)
+  s_at (e ∷ p) (f ∷ q) np nq ip iq = s_polynomial_is b (led_of (e ∷ p)) (led_of (f ∷ q)) ip iq

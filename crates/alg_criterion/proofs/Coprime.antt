@@ -17,7 +17,7 @@ use Rattle.alg_mono.proofs.Polynomials.{times_poly_comm}
 use Rattle.alg_criterion.proofs.Spans.{Every, Led, whole, Summand, summed, Under, IsLine, IsGood, Spans, crossed}
 use Rattle.alg_criterion.proofs.Whole.{one_apart}
 use Rattle.alg_criterion.proofs.Rows.{at-append, at-row_one}
-use Rattle.alg_criterion.proofs.Criterion.{scaled, every-append, at-summed-append, at-scaled}
+use Rattle.alg_criterion.proofs.Summing.{scaled, every-append, at-summed-append, at-scaled}
 
 module _ {M : Type 0} where
   -- one summand for each entry of p, all of the line l

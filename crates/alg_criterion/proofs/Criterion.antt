@@ -2,7 +2,7 @@
 -- are divisible.
 use Rattle.std.specs.Prelude.{◌≡◌, ◌≢◌, cond, not, List, [], ◌∷◌, ◌++◌, ℤ, pos, ◌+ℤ◌, ◌*ℤ◌}
 use Rattle.std.proofs.Common.{refl, sym, ap, subst, ◌∙◌, T, ◌⊎◌, inl, inr}
-use lib.IntN.{neg_ℤ, +ℤ_assoc, +ℤ_idl, +ℤ_idr, zero-*ℤ, ℤ_discrete}
+use lib.IntN.{neg_ℤ, +ℤ_idl, +ℤ_idr, zero-*ℤ, ℤ_discrete}
 use Rattle.std.specs.declared.cmp.Ordering.{Ordering}
 use Rattle.std.specs.declared.cmp.Ordering.TheVariants.{Less, Equal, Greater}
 use Rattle.std.specs.Ordering.{is_lt, is_eq, ordering_reverse}
@@ -12,44 +12,11 @@ use Rattle.std.specs.FinMap.Entries.{below_all}
 use Rattle.alg_mono.specs.FiniteMaps.{amount, row, all_some}
 use Rattle.alg_mono.specs.Numbers.{integers, is_zero}
 use Rattle.alg_mono.proofs.Canonical.{first, second, less, both}
-use Rattle.alg_mono.proofs.Numbers.{*ℤ_comm, *ℤ_assoc, *ℤ_dist, one-*ℤ}
+use Rattle.alg_mono.proofs.Numbers.{*ℤ_comm, *ℤ_assoc, one-*ℤ}
 use Rattle.alg_criterion.proofs.Spans.{Every, Led, whole, Summand, summed, top, Under, IsLine, IsGood, Spans, ArePairsBelow, IsReducible}
 use Rattle.alg_criterion.proofs.Whole.{product_apart, one_apart, moved, turn_under, turn_equal}
-use Rattle.alg_criterion.proofs.Rows.{at-append, at-row, at-row_one, above_top, at_top, above_all}
-
-pub every-append : {A : Type 0} (P : A → Type 0) (xs ys : List A) → Every P xs → Every P ys → Every P (xs ++ ys)
-every-append P [] ys h k = k
-every-append P (x ∷ xs) ys h k = (h.0, every-append P xs ys h.1 k)
-
-module _ {M : Type 0} where
-  -- each factor times c
-  abbrev pub scaled : ℤ → List (Summand M) → List (Summand M)
-  scaled c [] = []
-  scaled c (t ∷ ts) = record t { factor = c *ℤ t.factor } ∷ scaled c ts
-
-module _ {M : Type 0} (cmp : M → M → Ordering) (times : M → M → M) where
-  pub at-summed-append : (q : M) (ts us : List (Summand M)) →
-      amount cmp integers.amounts q (summed times (ts ++ us)) ≡ amount cmp integers.amounts q (summed times ts)
-      +ℤ amount cmp integers.amounts q (summed times us)
-  at-summed-append q [] us = sym (+ℤ_idl (amount cmp integers.amounts q (summed times us)))
-  at-summed-append q (t ∷ ts) us =
-      let r = row times ◌*ℤ◌ t.by t.factor (whole t.line) in
-      at-append cmp q r (summed times (ts ++ us)) ∙ ap (λ x. amount cmp integers.amounts q r +ℤ x)
-      (at-summed-append q ts us)
-      ∙ sym (+ℤ_assoc (amount cmp integers.amounts q r) (amount cmp integers.amounts q (summed times ts))
-      (amount cmp integers.amounts q (summed times us)))
-      ∙ ap (λ x. x +ℤ amount cmp integers.amounts q (summed times us)) (sym (at-append cmp q r (summed times ts)))
-
-  pub at-scaled : (q : M) (c : ℤ) (ts : List (Summand M)) →
-      amount cmp integers.amounts q (summed times (scaled c ts)) ≡
-      c *ℤ amount cmp integers.amounts q (summed times ts)
-  at-scaled q c [] = sym (*ℤ_comm c (pos 0) ∙ zero-*ℤ c)
-  at-scaled q c (t ∷ ts) =
-      let r = λ (d : ℤ). row times ◌*ℤ◌ t.by d (whole t.line) in
-      at-append cmp q (r (c *ℤ t.factor)) (summed times (scaled c ts))
-      ∙ (λ i. at-row cmp times q t.by c t.factor (whole t.line) i +ℤ at-scaled q c ts i)
-      ∙ sym (*ℤ_dist c (amount cmp integers.amounts q (r t.factor)) (amount cmp integers.amounts q (summed times ts)))
-      ∙ ap (λ x. c *ℤ x) (sym (at-append cmp q (r t.factor) (summed times ts)))
+use Rattle.alg_criterion.proofs.Rows.{at-append, at-row_one, above_top, at_top, above_all}
+use Rattle.alg_criterion.proofs.Summing.{every-append, scaled, at-summed-append, at-scaled}
 
 module _ {M : Type 0} {cmp : M → M → Ordering} (o : IsTotalOrder cmp) (anti : IsAntisymmetric cmp) (times : M → M →
     M) (times_comm : (m n : M) → times m n ≡ times n m)

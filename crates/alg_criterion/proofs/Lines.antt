@@ -10,11 +10,12 @@ use Rattle.alg_mono.proofs.Numbers.{*ℤ_assoc}
 use Rattle.alg_criterion.proofs.Spans.{Every, Led, whole, IsLine, Spans, IsMonomials}
 use Rattle.alg_criterion.proofs.Machine.{Has, Seen, scale, IsPoly, Reached, start, steps, drops, reduces, joins, takes, pairs_up}
 use Rattle.alg_criterion.proofs.Whole.{product_apart, mul_left}
-use Rattle.alg_criterion.proofs.Criterion.{scaled, at-scaled, every-append}
+use Rattle.alg_criterion.proofs.Summing.{scaled, at-scaled, every-append}
 use Rattle.alg_criterion.proofs.Lifts.{at-scale}
 use Rattle.alg_criterion.proofs.Remains.{poly_line, every-scaled, leaves_start, leaves_line}
 use Rattle.alg_criterion.proofs.Sums.{Any, sum_nil, sum-append, sum-row}
-use Rattle.alg_criterion.proofs.Invariant.{inv, some_same, none_some, every_has}
+use Rattle.alg_criterion.proofs.Pairwise.{some_same, none_some, every_has}
+use Rattle.alg_criterion.proofs.Invariant.{inv}
 
 module _ {M : Type 0} {cmp : M → M → Ordering} {times over : M → M → M} {one : M} {Ok : M → Type 0}
     (L : IsMonomials cmp times over one Ok) (hyps powers : List (List (M × ℤ)))
@@ -73,7 +74,7 @@ module _ {M : Type 0} {cmp : M → M → Ordering} {times over : M → M → M} 
     basis = λ l h. absurd h;
     current = λ c e. none_some c e;
     inputs =
-        every_has L hyps powers hyps_ok powers_ok hyps;
+        every_has hyps;
   }
   made_sums t (steps s r new h) = let m = made_sums s r in
       record { made = m.made; basis = m.basis; current = m.current; inputs = m.inputs }

@@ -24,40 +24,24 @@ use Rattle.alg_groebner.proofs.Adding.{is_less, not_less}
 use Rattle.alg_groebner.proofs.Chosen.{reducer_says, reducible_says}
 use Rattle.alg_groebner.proofs.Keeping.{goes_kept}
 use Rattle.alg_criterion.proofs.Spans.{Every, Led, whole, IsLine}
-use Rattle.alg_criterion.proofs.Machine.{Has, IsPoly, IsReduct, IsSPolynomial, AreCoprime, Reached, steps, drops, reduces as reduces_move, joins, takes, pairs_up, IsOver}
+use Rattle.alg_criterion.proofs.Machine.{Has, IsPoly, AreCoprime, Reached, steps, drops, reduces as reduces_move, joins, takes, pairs_up, IsOver}
 use Rattle.alg_criterion.proofs.Numbered.{IsWithin, mono_times, mono_over, falling}
 use Rattle.alg_criterion.proofs.Instance.{monomials}
 use Rattle.alg_criterion.proofs.Invariant.{Inv, inv}
 use Rattle.alg_criterion.proofs.Remains.{poly_line}
-use Rattle.alg_criterion.proofs.Lists.{led_of, whole-led_of, lead-led_of}
+use Rattle.alg_criterion.proofs.Lists.{whole-led_of, lead-led_of}
 use Rattle.alg_criterion.proofs.Members.{has_mapped, has_from, has_in, found_in, insert_self, insert_grows, insert_split}
-use Rattle.alg_criterion.proofs.Cancelled.{reduct_is, s_polynomial_is}
+use Rattle.alg_criterion.proofs.Cancelled.{reduct_at, s_at}
 use Rattle.alg_criterion.proofs.Commons.{are_coprime}
 use Rattle.alg_criterion.proofs.Seeing.{led_at, led_pair, current_of, rests, seen, line_seen}
 use Rattle.alg_criterion.proofs.Joining.{same_led, pairs_grow, pairs_meet}
 use Rattle.alg_criterion.proofs.Reducing.{reducible_in, set_steps, all_reduced}
 
-module _ (b : ℕ) where
-  abbrev IsP : Polynomial → Type 0
-  IsP p = IsPoly falling mono_times mono_over (IsWithin b) p
+abbrev IsP : ℕ → Polynomial → Type 0
+IsP b p = IsPoly falling mono_times mono_over (IsWithin b) p
 
-  abbrev IsL : Led Monomial → Type 0
-  IsL l = IsLine falling mono_times (IsWithin b) l
-
-  -- what is made, for polynomials as lists
-  reduct_at : (p q : Polynomial) → IsP p → IsL (led_of q) → reduces q p ≡ true →
-      IsReduct falling mono_times mono_over (IsWithin b) p (led_of q) (reduced p q).poly
-  reduct_at p [] ip iq e = absurd (let f : false ≡ true = e in grind arith)
-  reduct_at [] (f ∷ q) ip iq e = absurd (let f : false ≡ true = e in grind arith)
-  reduct_at (e ∷ p) (f ∷ q) ip iq t =
-      let l : Led Monomial = record { lead = e.0; leading = e.1; rest = p } in
-      reduct_is b l (led_of (f ∷ q)) (poly_line (monomials b) l ip) iq t
-
-  s_at : (p q : Polynomial) → p ≢ [] → q ≢ [] → IsL (led_of p) → IsL (led_of q) →
-      IsSPolynomial falling mono_times mono_over (IsWithin b) (led_of p) (led_of q) (s_polynomial p q).poly
-  s_at [] q np nq ip iq = absurd (np refl)
-  s_at (e ∷ p) [] np nq ip iq = absurd (nq refl)
-  s_at (e ∷ p) (f ∷ q) np nq ip iq = s_polynomial_is b (led_of (e ∷ p)) (led_of (f ∷ q)) ip iq
+abbrev IsL : ℕ → Led Monomial → Type 0
+IsL b l = IsLine falling mono_times (IsWithin b) l
 
 module _ (b : ℕ) (hyps powers : List Polynomial) (hyps_ok : Every (IsPoly falling mono_times mono_over (IsWithin b))
     hyps)

@@ -16,30 +16,11 @@ use Rattle.alg_mono.proofs.Integers.{neg_ℤ-*ℤ}
 use Rattle.alg_mono.proofs.Numbers.{*ℤ_comm, *ℤ_assoc, *ℤ_dist, one-*ℤ}
 use Rattle.alg_criterion.proofs.Spans.{Every, Led, whole, Summand, summed, Under, IsLine, IsGood, Spans, s_entries, lcm_of, IsMonomials}
 use Rattle.alg_criterion.proofs.Machine.{scale, IsPoly, IsReduct, IsSPolynomial}
-use Rattle.alg_criterion.proofs.Whole.{ring, product_apart, one_apart}
+use Rattle.alg_criterion.proofs.Whole.{product_apart, one_apart}
+use Rattle.alg_criterion.proofs.Working.{worked}
 use Rattle.alg_criterion.proofs.Rows.{at-append, at-row_one, above_top, at_top, above_all}
-use Rattle.alg_criterion.proofs.Criterion.{scaled, at-scaled}
+use Rattle.alg_criterion.proofs.Summing.{scaled, at-scaled}
 use Rattle.alg_criterion.proofs.Lifts.{at-scale}
-
--- the arithmetic of one reduction
-worked : (a k s d b p c c1 r t : ℤ) → k *ℤ p ≡ (s *ℤ c) +ℤ t → d *ℤ c1 ≡ (a *ℤ c) +ℤ (neg_ℤ b *ℤ r) →
-    (a *ℤ k) *ℤ p ≡ ((s *ℤ d) *ℤ c1) +ℤ (((s *ℤ b) *ℤ r) +ℤ (a *ℤ t))
-worked a k s d b p c c1 r t h e =
-    *ℤ_assoc a k p ∙ ap (λ z. a *ℤ z) h ∙ split a s c t ∙ ap (λ z. (s *ℤ z) +ℤ (a *ℤ t)) (back a c b r
-    ∙ ap (λ z. z +ℤ (b *ℤ r)) (sym e)) ∙ join s d c1 b r a t
-  where
-    split : (a s c t : ℤ) → a *ℤ ((s *ℤ c) +ℤ t) ≡ (s *ℤ (a *ℤ c)) +ℤ (a *ℤ t)
-    split a s c t = simp ring
-
-    back : (a c b r : ℤ) → a *ℤ c ≡ ((a *ℤ c) +ℤ (neg_ℤ b *ℤ r)) +ℤ (b *ℤ r)
-    back a c b r = cancel (a *ℤ c) (b *ℤ r) ∙ ap (λ z. ((a *ℤ c) +ℤ z) +ℤ (b *ℤ r)) (sym (neg_ℤ-*ℤ b r))
-      where
-        cancel : (x y : ℤ) → x ≡ (x +ℤ neg_ℤ y) +ℤ y
-        cancel x y = omega (arith, ints)
-
-    join : (s d c1 b r a t : ℤ) → (s *ℤ ((d *ℤ c1) +ℤ (b *ℤ r))) +ℤ (a *ℤ t) ≡ ((s *ℤ d) *ℤ c1)
-        +ℤ (((s *ℤ b) *ℤ r) +ℤ (a *ℤ t))
-    join s d c1 b r a t = simp ring
 
 module _ {M : Type 0} {cmp : M → M → Ordering} {times over : M → M → M} {one : M} {Ok : M → Type 0}
     (L : IsMonomials cmp times over one Ok) where

@@ -14,7 +14,7 @@ use Rattle.alg_criterion.proofs.Spans.{Every, Led, whole, Summand, summed, IsGoo
 use Rattle.alg_criterion.proofs.Numbered.{IsWithin, mono_times, falling}
 use Rattle.alg_criterion.proofs.Quotients.{falling_total, falling_anti}
 use Rattle.alg_criterion.proofs.Rows.{at-append}
-use Rattle.alg_criterion.proofs.Criterion.{scaled, at-scaled}
+use Rattle.alg_criterion.proofs.Summing.{scaled, at-scaled}
 use Rattle.alg_criterion.proofs.Whole.{product_apart, mul_left}
 use Rattle.alg_criterion.proofs.Lists.{every_of, all_of, led_of, whole-led_of, lead-led_of}
 use Rattle.alg_criterion.proofs.Values.{val, times_row, at-sum, at-multiple, at-times}

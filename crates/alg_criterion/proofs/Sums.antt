@@ -12,7 +12,7 @@ use Rattle.alg_criterion.proofs.Spans.{Every, Led, Summand, summed, IsLine, IsGo
 use Rattle.alg_criterion.proofs.Machine.{combined, IsCombination}
 use Rattle.alg_criterion.proofs.Whole.{ring, product_apart, one_apart, mul_left}
 use Rattle.alg_criterion.proofs.Rows.{at-append, at-row_one}
-use Rattle.alg_criterion.proofs.Criterion.{scaled, every-append, at-summed-append, at-scaled}
+use Rattle.alg_criterion.proofs.Summing.{scaled, every-append, at-summed-append, at-scaled}
 use Rattle.alg_criterion.proofs.Lifts.{lifted, row_same}
 use Rattle.alg_criterion.proofs.Remains.{Leaves, every-scaled}
 

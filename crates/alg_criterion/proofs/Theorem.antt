@@ -21,11 +21,12 @@ use Rattle.alg_criterion.proofs.Spans.{Every, Led, whole, Spans, Under, LowOf, l
 use Rattle.alg_criterion.proofs.Machine.{Has, combined, IsCombination as IsSumOfProducts}
 use Rattle.alg_criterion.proofs.Numbered.{IsWithin, mono_times, mono_over, falling}
 use Rattle.alg_criterion.proofs.Quotients.{times_comm}
-use Rattle.alg_criterion.proofs.Criterion.{every-append}
+use Rattle.alg_criterion.proofs.Summing.{every-append}
 use Rattle.alg_criterion.proofs.Rows.{at-append}
 use Rattle.alg_criterion.proofs.Instance.{monomials}
 use Rattle.alg_criterion.proofs.Sums.{Any}
-use Rattle.alg_criterion.proofs.Invariant.{inv, all_below, all_cleared, none_exists_at}
+use Rattle.alg_criterion.proofs.Invariant.{inv}
+use Rattle.alg_criterion.proofs.Ended.{all_below, all_cleared, none_exists_at}
 use Rattle.alg_criterion.proofs.Lines.{all_made, made_polys, sum_given}
 use Rattle.alg_criterion.proofs.Bounds.{every_more, each_more, polys_bound}
 use Rattle.alg_criterion.proofs.Lists.{every_of, all_of, whole-led_of}
