@@ -6,7 +6,7 @@ ghost use Rattle.alg_terms.specs.Limits.{MAX_EXPONENT};
 ghost use Rattle.alg_reify.specs.Tried.{tried};
 
 use crate::laws::proved_is_right;
-use crate::{NoMemory, RingAnswer, RingDecision, Stop, decide_ring};
+use crate::{HornerPoly, NoMemory, Poly, RingAnswer, RingDecision, Stop, decide_ring, to_poly};
 use alg_terms::{Equation, File, Kind, Name, Seq, Sort, Statement, Term, VarDecl};
 use alg_universe::Rats;
 use sqlite_items::Boxed;
@@ -76,7 +76,12 @@ fn equation(
 
 // The degree of the monomial and the two coefficients of an answer No.
 fn told(decision: RingDecision) -> Option<(u32, i128, i128)> {
-    match decision.answer {
+    let RingDecision {
+        answer,
+        left: _left,
+        right: _right,
+    } = decision;
+    match answer {
         RingAnswer::Proved => None,
         RingAnswer::No { at, left, right } => Some((at.degree(), left, right)),
     }
@@ -102,6 +107,14 @@ fn an_equation_is_proved_or_refuted_within_the_limits(rt: HostRuntime) -> Result
         let decision = decide_ring(rt.alloc(), &file, &goal);
         assert_eq!(rt; decision.map(told), want, "k {k}, n {n}, c {c}, d {d}");
     }
+    Ok(())
+}
+
+#[test]
+fn a_form_is_listed_as_its_polynomial(rt: HostRuntime) -> Result<(), Fail> {
+    let form = HornerPoly::atom(rt.alloc(), 2)?;
+    let listed = to_poly(rt.alloc(), &form)?;
+    assert!(rt; listed.same(&Poly::atom(rt.alloc(), 2)?));
     Ok(())
 }
 
