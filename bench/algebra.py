@@ -41,7 +41,12 @@ def sign(order):
 
 
 def sum_of(terms):
-    return " ".join(f"{'-' if s < 0 else '+'} {t}" for s, t in terms).removeprefix("+ ")
+    """The sum of terms with signs, by halves in parentheses, since a term's depth is at most 1,000."""
+    if len(terms) == 1:
+        positive, term = terms[0]
+        return term if positive > 0 else f"(-1)*{term}"
+    half = len(terms) // 2
+    return f"({sum_of(terms[:half])} + {sum_of(terms[half:])})"
 
 
 def vandermonde(count):
