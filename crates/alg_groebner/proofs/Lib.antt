@@ -24,3 +24,4 @@ pub mod Simulated
 pub mod Simulation
 pub mod Running
 pub mod Answered
+pub mod Begun
