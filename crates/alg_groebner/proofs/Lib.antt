@@ -1,6 +1,7 @@
 pub mod Divisors
 pub mod Leading
 pub mod Scans
+pub mod Indexed
 pub mod Cancelling
 pub mod Lifting
 pub mod Moves
