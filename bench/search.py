@@ -9,10 +9,10 @@ the counted moves (with --moves, which finds them by halving), the seconds and t
 
 import argparse
 import os
-import resource
 import shutil
 import subprocess
 import sys
+import tempfile
 import time
 
 HERE = os.path.dirname(os.path.abspath(__file__))
@@ -54,12 +54,18 @@ def text_of(poly):
 
 
 def run(program, problem, limit):
+    """How the search ends, its seconds, and its peak memory in MB."""
     hyps, goal, power = problem
     text = "\n".join([f"{power} {limit}", text_of(goal), *map(text_of, hyps)]) + "\n"
     start = time.time()
-    process = subprocess.Popen([program], stdin=subprocess.PIPE, stdout=subprocess.PIPE, text=True)
-    out, _ = process.communicate(text)
-    return out.strip(), time.time() - start
+    with tempfile.TemporaryFile("w+") as given, tempfile.TemporaryFile("w+") as taken:
+        given.write(text)
+        given.seek(0)
+        process = subprocess.Popen([program], stdin=given, stdout=taken)
+        _, _, usage = os.wait4(process.pid, 0)
+        seconds = time.time() - start
+        taken.seek(0)
+        return taken.read().strip(), seconds, usage.ru_maxrss / 1024
 
 
 def moves(program, problem):
@@ -84,8 +90,7 @@ def main():
         if options.word not in name:
             continue
         problem = make()
-        end, seconds = run(program, problem, LIMIT)
-        peak = resource.getrusage(resource.RUSAGE_CHILDREN).ru_maxrss / 1024
+        end, seconds, peak = run(program, problem, LIMIT)
         count = f", {moves(program, problem)} moves" if options.moves else ""
         print(f"{name}: {end}{count}, {seconds:.2f} s, peak {peak:.0f} MB", flush=True)
 
