@@ -17,7 +17,7 @@ use Rattle.alg_groebner.specs.Choices.{remainder_at, reducer, first_reducible, z
 use Rattle.alg_groebner.specs.Leads.{reduces, coprime, lead}
 use Rattle.alg_groebner.specs.Machine.{made, counted, by_pairs, by_inputs, by_reducible, by_reducer, by_line, by_current, by_power, next}
 use Rattle.alg_groebner.specs.Moves.{with_line, stepped, goal_outcome, goal_reduced, dropped, line_outcome, line_reduced, joined, next_taken, without_pair, pair_outcome, pair_taken}
-use Rattle.alg_groebner.specs.Runs.{Runs, now, later}
+use Rattle.alg_groebner.specs.Follows.{Follows, now, later}
 use Rattle.alg_groebner.specs.Sound.{HasBoth, AreMembers, IsSound}
 use Rattle.alg_groebner.specs.State.{State, End, Next, Goes, Ends}
 use Rattle.alg_groebner.proofs.Adding.{is_less, not_less}
@@ -128,7 +128,7 @@ module _ (b : ℕ) (hyps powers : List Polynomial) (hyps_ok : Every (IsPoly fall
     unfolding next
     after_next = power_after (zero_power st.remainders) refl
 
-  pub run_fine : (limit : ℕ) (st last : State) (e : End) → Runs limit st last e → IsSound limit st → Fine st →
+  pub run_fine : (limit : ℕ) (st last : State) (e : End) → Follows limit st last e → IsSound limit st → Fine st →
       Fine last × Then last (Ends e)
   run_fine limit st last e (now h) s f = (f, subst (Then st) h (after_next limit st s f))
   run_fine limit st last e (later {to = to} h r) s f =

@@ -17,7 +17,7 @@ use Rattle.alg_groebner.specs.Choices.{remainder_at, reducer, first_reducible, z
 use Rattle.alg_groebner.specs.Leads.{reduces, coprime, lead}
 use Rattle.alg_groebner.specs.Machine.{made, counted, by_pairs, by_inputs, by_reducible, by_reducer, by_line, by_current, by_power, next}
 use Rattle.alg_groebner.specs.Moves.{with_line, stepped, goal_outcome, goal_reduced, dropped, line_outcome, line_reduced, joined, next_taken, without_pair, pair_outcome, pair_taken}
-use Rattle.alg_groebner.specs.Runs.{Runs, now, later}
+use Rattle.alg_groebner.specs.Follows.{Follows, now, later}
 use Rattle.alg_groebner.specs.Sound.{HasBoth, AreMembers, IsSound}
 use Rattle.alg_groebner.specs.State.{State, End, Next, Goes, Ends}
 use Rattle.alg_groebner.proofs.Adding.{is_less, not_less}

@@ -27,6 +27,7 @@ use Rattle.alg_criterion.proofs.Numbered.{IsWithin, mono_times, mono_over, falli
 use Rattle.alg_criterion.proofs.Quotients.{falling_total}
 use Rattle.alg_criterion.proofs.Bounds.{every_more, each_more, polys_bound}
 use Rattle.alg_criterion.proofs.Lists.{every_of}
+use Rattle.alg_groebner.proofs.Ordered.{first_in_order, follows_if_runs}
 use Rattle.alg_criterion.proofs.Fine.{IsFine, After}
 use Rattle.alg_criterion.proofs.Linked.{run_fine}
 
@@ -145,9 +146,10 @@ module _ (hyps : List Polynomial) (g : Polynomial) (power limit : ℕ) (last : S
   comes_fine st e (too_great t) = (first_fine, tt, first)
   comes_fine st e (too_high t) = (first_fine, tt, first)
   comes_fine st e (runs t r) =
-      let f = run_fine b hyps ps B.hyps_ok B.powers_ok limit (first_state hyps (powers g 1 power))
-      st e r first first_fine in
-      (f.0, f.1, (runs_sound limit (first_state hyps (powers g 1 power)) st e r first).0)
+      let start = first_state hyps (powers g 1 power) in
+      let computed = follows_if_runs limit start st e (first_in_order hyps (powers g 1 power)) r in
+      let f = run_fine b hyps ps B.hyps_ok B.powers_ok limit start st e computed first first_fine in
+      (f.0, f.1, (runs_sound limit start st e computed first).0)
 
   pub at_end : AtEnd last e
   at_end = comes_fine last e run.comes

@@ -12,7 +12,8 @@ use Rattle.alg_lines.specs.declared.cert.GoalStep.{GoalStep}
 use Rattle.alg_lines.specs.declared.cert.Line.{Line}
 use Rattle.alg_groebner.specs.Choices.{remainder_at}
 use Rattle.alg_groebner.specs.Pruning.{marks_of, numbers_after, renumbered_step, kept_lines, certificate_from, certificate}
-use Rattle.alg_groebner.specs.Runs.{too_great, too_high, runs, powers, powers_outcome, first_state}
+use Rattle.alg_groebner.specs.Follows.{Follows}
+use Rattle.alg_groebner.specs.Runs.{Comes, too_great, too_high, runs, powers, powers_outcome, first_state}
 use Rattle.alg_groebner.specs.Sound.{step_count, IsSound}
 use Rattle.alg_groebner.specs.State as state
 use Rattle.alg_groebner.specs.State.{State, End}
@@ -22,6 +23,7 @@ use Rattle.alg_groebner.specs.Work.{Work}
 use Rattle.alg_groebner.specs.declared.decide.Verdict.TheVariants as verdicts
 use Rattle.alg_groebner.specs.declared.machine.Ending.TheVariants as endings
 use Rattle.alg_groebner.specs.declared.remainder.Remainder.{Remainder}
+use Rattle.alg_groebner.proofs.Ordered.{first_in_order, runs_if_follows}
 use Rattle.alg_groebner.proofs.Ending.{first_sound, runs_sound, zero_found, position_within}
 
 pub refused_powers : (hyps : List Polynomial) (g : Polynomial) (power limit : ℕ) (e : Overrun) → Tells e
@@ -75,9 +77,13 @@ module _ (hyps : List Polynomial) (g : Polynomial) (power limit : ℕ) (few : le
   abbrev pub first : State
   first = first_state hyps (powers g 1 power)
 
+  -- the computed run is the run
+  pub came : (last : State) (e : End) → Follows limit first last e → Comes hyps g power limit last e
+  came last e h = runs fine (runs_if_follows limit first last e (first_in_order hyps (powers g 1 power)) h)
+
   pub refused_run : (w : Work) (e : Overrun) → RunsAs limit first (Err e) w → Decides hyps g power limit (Err e)
-  refused_run w overruns.Range h = (h.0, runs fine h.1)
-  refused_run w overruns.Degree h = (h.0, runs fine h.1)
+  refused_run w overruns.Range h = (h.0, came h.0 state.Range h.1)
+  refused_run w overruns.Degree h = (h.0, came h.0 state.Degree h.1)
   refused_run w overruns.NoMemory h = tt
 
   -- where a power came to zero there is its remainder, and all lines have numbers
@@ -113,6 +119,6 @@ module _ (hyps : List Polynomial) (g : Polynomial) (power limit : ℕ) (few : le
       let is = e ∙ same_certificate w last r h.2 h.3 h.4 in
       let sound = (runs_sound limit first last (state.Proved r) h.1 (first_sound hyps g power limit few small low)).0
       in (
-        (last, r, runs fine h.1, is),
+        (last, r, came last (state.Proved r) h.1, is),
         subst (λ (c : Cert). length c.lines + length c.steps ≤ limit) (sym is) (certificate_short limit last r sound),
       )

@@ -5,8 +5,9 @@ use Rattle.alg_mono.specs.NumberedPolynomials.{Polynomial}
 use Rattle.alg_mono.specs.Outcomes.{Outcome}
 use Rattle.alg_mono.specs.declared.ends.Overrun.{Overrun}
 use Rattle.alg_lines.specs.declared.cert.Cert.{Cert}
-use Rattle.alg_groebner.specs.Runs.{powers, powers_outcome, first_state, runs}
+use Rattle.alg_groebner.specs.Runs.{powers, powers_outcome, first_state}
 use Rattle.alg_groebner.specs.Sound.{IsSound}
+use Rattle.alg_groebner.specs.State as state
 use Rattle.alg_groebner.specs.Steps.{RunsAs, work_certificate}
 use Rattle.alg_groebner.specs.Verdicts.{Decides, IsWithinLimit}
 use Rattle.alg_groebner.specs.Work.{Work}
@@ -57,11 +58,17 @@ module _ {hyps : List Polynomial} {g : Polynomial} {power limit : ℕ} {gs : Lis
 
     pub none : {e : Ending} {r : ℕ} → e ≡ NoneUpTo r → RunsAs limit (first_state hyps gs) (Ok e) w →
         Decides hyps g power limit (Ok (verdicts.NoneUpTo r))
-    none is h = let there = ran is h in (there.0, runs b.fine there.1)
+    none {r = r} is h =
+        let there = ran is h in
+        (there.0, answered.came hyps g power limit b.few b.small b.low b.fine there.0 (state.NoneUpTo r) there.1)
 
     pub gave_up : {e : Ending} → e ≡ GaveUp → RunsAs limit (first_state hyps gs) (Ok e) w →
         Decides hyps g power limit (Ok (verdicts.GaveUp limit))
-    gave_up is h = let there = ran is h in (refl, (there.0, runs b.fine there.1))
+    gave_up is h =
+        let there = ran is h in (
+          refl,
+          (there.0, answered.came hyps g power limit b.few b.small b.low b.fine there.0 state.GaveUp there.1),
+        )
 
     pub refused : (e : Overrun) → RunsAs limit (first_state hyps gs) (Err e) w → Decides hyps g power limit (Err e)
     refused e h = answered.refused_run hyps g power limit b.few b.small b.low b.fine w e

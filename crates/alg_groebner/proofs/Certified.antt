@@ -11,11 +11,13 @@ use Rattle.alg_lines.specs.declared.cert.GoalStep.{GoalStep}
 use Rattle.alg_groebner.specs.State.{State, End}
 use Rattle.alg_groebner.specs.Choices.{remainder_at}
 use Rattle.alg_groebner.specs.Pruning.{mark, mark_steps, marks_of, numbers_after, renumbered_step, kept_lines, certificate_from, certificate}
-use Rattle.alg_groebner.specs.Runs.{Runs, now, later, Comes, runs, too_great, too_high, powers, powers_outcome, first_state}
+use Rattle.alg_groebner.specs.Follows.{Follows, now, later}
+use Rattle.alg_groebner.specs.Runs.{Comes, runs, too_great, too_high, powers, powers_outcome, first_state}
 use Rattle.alg_groebner.specs.Sound.{IsSound}
 use Rattle.alg_groebner.specs.Laws.{CertificatesAreGood}
 use Rattle.alg_groebner.specs.declared.remainder.Remainder.{Remainder}
 use Rattle.alg_groebner.proofs.Found.{same_some, none_some}
+use Rattle.alg_groebner.proofs.Ordered.{first_in_order, follows_if_runs}
 use Rattle.alg_groebner.proofs.Ending.{runs_sound, zero_found, position_within, first_sound}
 use Rattle.alg_groebner.proofs.Followed.{IsP, IsFaithful, AllSteps, goes_faithful}
 use Rattle.alg_groebner.proofs.Keeping.{goes_kept}
@@ -89,7 +91,7 @@ pruned_good hyps made all g ss a b =
     )
 
 -- ---- the run
-runs_faithful : (hyps : List Polynomial) (g : Polynomial) (limit : ℕ) (st last : State) (e : End) → Runs limit st last
+runs_faithful : (hyps : List Polynomial) (g : Polynomial) (limit : ℕ) (st last : State) (e : End) → Follows limit st last
     e → IsSound limit st →
     IsFaithful hyps g st → IsFaithful hyps g last
 runs_faithful hyps g limit st last e (now h) s f = f
@@ -162,7 +164,7 @@ module _ (hyps : List Polynomial) (g : Polynomial) (limit : ℕ) where
       AreLines hyps (kept_lines (numbers_after 0 bs) (drop s bs) made) (keep bs all)
       × AreSteps (keep bs all) start (map (renumbered_step (numbers_after 0 bs)) ss) []
 
-  run_good : (first last : State) (r : ℕ) → Runs limit first last (End.Proved r) → IsSound limit first → IsFaithful
+  run_good : (first last : State) (r : ℕ) → Follows limit first last (End.Proved r) → IsSound limit first → IsFaithful
       hyps g first → IsGood hyps g (certificate last r)
   unfolding certificate_from
   run_good first last r ran s f =
@@ -187,8 +189,9 @@ module _ (hyps : List Polynomial) (g : Polynomial) (limit : ℕ) where
   come_good power last e r polys few small low (too_great t) q = absurd (grind arith)
   come_good power last e r polys few small low (too_high t) q = absurd (grind arith)
   come_good power last e r polys few small low (runs f ran) q =
-      run_good (first_state hyps (powers g 1 power)) last r (subst
-      (λ (x : End). Runs limit (first_state hyps (powers g 1 power)) last x) q ran)
+      let first = first_state hyps (powers g 1 power) in
+      let computed = follows_if_runs limit first last e (first_in_order hyps (powers g 1 power)) ran in
+      run_good first last r (subst (λ (x : End). Follows limit first last x) q computed)
       (first_sound hyps g power limit few small low) (faithful_first power polys f)
 
 pub certificates_are_good : CertificatesAreGood

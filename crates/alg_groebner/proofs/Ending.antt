@@ -10,7 +10,8 @@ use Rattle.alg_groebner.specs.State.{State, End, Next, Goes, Ends}
 use Rattle.alg_groebner.specs.Machine.{made, counted, by_pairs, by_inputs, by_reducible, by_reducer, by_line, by_current, by_power, next}
 use Rattle.alg_groebner.specs.Choices.{reducer, first_reducible, zero_power}
 use Rattle.alg_groebner.specs.Moves.{next_taken}
-use Rattle.alg_groebner.specs.Runs.{Runs, now, later, powers, first_state}
+use Rattle.alg_groebner.specs.Follows.{Follows, now, later}
+use Rattle.alg_groebner.specs.Runs.{powers, first_state}
 use Rattle.alg_groebner.specs.Sound.{IsThere, HasBoth, AreMembers, step_count, IsSound}
 use Rattle.alg_groebner.proofs.Found.{same_some, none_some}
 use Rattle.alg_groebner.proofs.Keeping.{goes_kept}
@@ -81,7 +82,7 @@ module _ (limit : ℕ) where
   zero_found st r e = subst (Says st) e (power_says st (zero_power st.remainders) refl)
 
   -- the state where a run ends is sound, and its next step is the end
-  pub runs_sound : (st last : State) (e : End) → Runs limit st last e → IsSound limit st → IsSound limit last ×
+  pub runs_sound : (st last : State) (e : End) → Follows limit st last e → IsSound limit st → IsSound limit last ×
       (next limit last ≡ Ends e)
   runs_sound st last e (now h) s = (s, h)
   runs_sound st last e (later {to = to} h r) s = runs_sound to last e r ((goes_kept limit st to s h).0)

@@ -12,6 +12,10 @@ pub mod Chosen
 pub mod Added
 pub mod Keeping
 pub mod Ending
+pub mod Least
+pub mod Ruled
+pub mod Taken
+pub mod Ordered
 pub mod Determined
 pub mod Exact
 pub mod Faithful

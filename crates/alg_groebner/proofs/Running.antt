@@ -7,7 +7,8 @@ use Rattle.alg_mono.specs.declared.ends.Overrun.{Overrun}
 use Rattle.alg_mono.specs.declared.ends.Overrun.TheVariants.{Range, Degree, NoMemory}
 use Rattle.alg_pairs.specs.declared.pair.Pair.{Pair}
 use Rattle.alg_groebner.specs.Machine.{next}
-use Rattle.alg_groebner.specs.Runs.{Runs, now, later, work, current_left, first_state}
+use Rattle.alg_groebner.specs.Follows.{Follows, now, later}
+use Rattle.alg_groebner.specs.Runs.{work, current_left, first_state}
 use Rattle.alg_groebner.specs.Sound.{IsThere, IsIn, AreMembers, IsSound}
 use Rattle.alg_groebner.specs.State as state
 use Rattle.alg_groebner.specs.State.{State, End}
@@ -31,7 +32,7 @@ pub record Reaches (hyps : List Polynomial) (limit : ℕ) (first : State) (w : W
   pub over : List Pair
   pub agrees : Agrees hyps w lines over
   pub sound : IsSound limit (shown w lines over)
-  pub leads : (last : State) (e : End) → Runs limit (shown w lines over) last e → Runs limit first last e
+  pub leads : (last : State) (e : End) → Follows limit (shown w lines over) last e → Follows limit first last e
 
 members_some : (lines : List Polynomial) (bs : List Member) → All (IsThere lines) (numbers bs) → All (IsLine lines) bs
     → All IsSomeMember bs
@@ -105,7 +106,7 @@ module _ (hyps : List Polynomial) (limit : ℕ) (first : State) (w : Work) (h : 
         over = shows.1;
         agrees = shows.3;
         sound = subst (IsSound limit) shows.2 kept.0;
-        leads = λ last e r. h.leads last e (later s.1 (subst (λ (x : State). Runs limit x last e) (sym shows.2) r));
+        leads = λ last e r. h.leads last e (later s.1 (subst (λ (x : State). Follows limit x last e) (sym shows.2) r));
       }
 
   pub falls : (new : Work) → work_next hyps limit w ≡ GoesOn new → work_left limit new < work_left limit w
@@ -117,7 +118,7 @@ module _ (hyps : List Polynomial) (limit : ℕ) (first : State) (w : Work) (h : 
       let after = work_is limit new shows.0 shows.1 ∙ ap (work limit) (sym shows.2) in
       omega arith
 
-  ends_run : (e : End) → work_next hyps limit w ≡ Stops e → Runs limit first here e
+  ends_run : (e : End) → work_next hyps limit w ≡ Stops e → Follows limit first here e
   ends_run e s = h.leads here e (now (subst (λ (x : WorkNext). Simulates hyps x (next limit here)) s sim))
 
   pub ends : (e : Ending) (new : Work) → Steps (work_next hyps limit w) (Ok (Some e)) w new → RunsAs limit first

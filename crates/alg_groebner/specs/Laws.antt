@@ -6,9 +6,23 @@ use Rattle.alg_mono.specs.Polynomials.{IsPolynomial}
 use Rattle.alg_mono.specs.NumberedPolynomials.{Polynomial}
 use Rattle.alg_lines.specs.Accepting.{IsGood}
 use Rattle.alg_groebner.specs.Pruning.{certificate}
-use Rattle.alg_groebner.specs.State.{State, End, Proved}
-use Rattle.alg_groebner.specs.Runs.{Runs, Comes}
+use Rattle.alg_groebner.specs.Rules.{Takes, IsInOrder}
+use Rattle.alg_groebner.specs.State.{State, End, Proved, Next, Goes}
+use Rattle.alg_groebner.specs.Runs.{Runs, Comes, first_state}
 use Rattle.alg_groebner.specs.Sound.{IsSound}
+use Rattle.alg_groebner.specs.declared.remainder.Remainder.{Remainder}
+
+-- where the lists of a state are in order, one rule is taken, with one next state or one end
+abbrev pub OneStep : Type 0
+OneStep =
+    (limit : ℕ) (st : State) → IsInOrder st →
+    (x : Next) × Takes limit st x × ((y : Next) → Takes limit st y → y ≡ x)
+
+-- and so they are in each state of a search: in the first, and after each step
+abbrev pub StaysInOrder : Type 0
+StaysInOrder =
+    ((hyps : List Polynomial) (gs : List Remainder) → IsInOrder (first_state hyps gs))
+    × ((limit : ℕ) (st to : State) → IsInOrder st → Takes limit st (Goes to) → IsInOrder to)
 
 -- a run has one end, in one state
 abbrev pub OneEnd : Type 0
@@ -17,7 +31,8 @@ OneEnd =
 
 -- and each run ends
 abbrev pub SomeEnd : Type 0
-SomeEnd = (limit : ℕ) (st : State) → IsSound limit st → (last : State) × (e : End) × Runs limit st last e
+SomeEnd =
+    (limit : ℕ) (st : State) → IsSound limit st → IsInOrder st → (last : State) × (e : End) × Runs limit st last e
 
 -- the certificate of a run that came to zero is good
 abbrev pub CertificatesAreGood : Type 0

@@ -5,8 +5,10 @@ pub mod State
 pub mod Choices
 pub mod Moves
 pub mod Machine
-pub mod Runs
 pub mod Sound
+pub mod Rules
+pub mod Runs
+pub mod Follows
 pub mod Pruning
 pub mod Laws
 pub mod Work

@@ -1,4 +1,4 @@
--- The search machine: of eight rules the first that applies is taken, again and again.
+-- The step of the search machine as it is computed, one small function for each rule.
 use Rattle.std.specs.Prelude.{ℕ, cond, List, [], ◌∷◌, Option, Some, None, nat_lt, length}
 use Rattle.alg_mono.specs.Outcomes.{Outcome}
 use Rattle.alg_mono.specs.NumberedPolynomials.{Polynomial}

@@ -3,13 +3,13 @@ use Rattle.std.specs.Prelude.{◌≡◌, ℕ, zero, suc, ◌+◌, ◌*◌, ◌-�
 use Rattle.alg_mono.specs.Outcomes.{Outcome, first_breach, power_outcome}
 use Rattle.alg_mono.specs.NumberedPolynomials.{Polynomial, power_of}
 use Rattle.alg_groebner.specs.State.{State, End, Range, Degree, Goes, Ends}
-use Rattle.alg_groebner.specs.Machine.{next}
+use Rattle.alg_groebner.specs.Rules.{Takes}
 use Rattle.alg_groebner.specs.declared.remainder.Remainder.{Remainder}
 
 -- the run from a state, which ends in the second
 pub data Runs (limit : ℕ) : State → State → End → Type 0 where
-  now : {st : State} {e : End} → next limit st ≡ Ends e → Runs limit st st e
-  later : {st to last : State} {e : End} → next limit st ≡ Goes to → Runs limit to last e → Runs limit st last e
+  ends : {st : State} {e : End} → Takes limit st (Ends e) → Runs limit st st e
+  goes : {st to last : State} {e : End} → Takes limit st (Goes to) → Runs limit to last e → Runs limit st last e
 
 abbrev pub current_left : Option ℕ → ℕ
 current_left None = 0

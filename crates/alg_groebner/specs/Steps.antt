@@ -6,7 +6,7 @@ use Rattle.alg_mono.specs.declared.ends.Overrun.TheVariants as overruns
 use Rattle.alg_lines.specs.declared.cert.Cert.{Cert}
 use Rattle.alg_groebner.specs.Choices.{remainder_at}
 use Rattle.alg_groebner.specs.Pruning.{certificate_from}
-use Rattle.alg_groebner.specs.Runs.{Runs}
+use Rattle.alg_groebner.specs.Follows.{Follows}
 use Rattle.alg_groebner.specs.State as state
 use Rattle.alg_groebner.specs.Work.{Work}
 use Rattle.alg_groebner.specs.Working.{WorkNext, GoesOn, Stops}
@@ -55,12 +55,12 @@ first_work hyps remainders = record {
 -- and the steps
 abbrev pub RunsAs : ℕ → state.State → Result Ending Overrun → Work → Type 0
 RunsAs limit first (Ok (Proved r)) w =
-    (last : state.State) × Runs limit first last (state.Proved r)
+    (last : state.State) × Follows limit first last (state.Proved r)
     × (w.given ≡ last.given) × (w.made ≡ last.made) × (w.remainders ≡ last.remainders)
-RunsAs limit first (Ok (NoneUpTo r)) w = (last : state.State) × Runs limit first last (state.NoneUpTo r)
-RunsAs limit first (Ok GaveUp) w = (last : state.State) × Runs limit first last state.GaveUp
-RunsAs limit first (Err overruns.Range) w = (last : state.State) × Runs limit first last state.Range
-RunsAs limit first (Err overruns.Degree) w = (last : state.State) × Runs limit first last state.Degree
+RunsAs limit first (Ok (NoneUpTo r)) w = (last : state.State) × Follows limit first last (state.NoneUpTo r)
+RunsAs limit first (Ok GaveUp) w = (last : state.State) × Follows limit first last state.GaveUp
+RunsAs limit first (Err overruns.Range) w = (last : state.State) × Follows limit first last state.Range
+RunsAs limit first (Err overruns.Degree) w = (last : state.State) × Follows limit first last state.Degree
 RunsAs limit first (Err overruns.NoMemory) w = Unit {0}
 
 -- the certificate of what the state has for a power

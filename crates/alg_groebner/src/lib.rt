@@ -1,8 +1,8 @@
 //! The search for a certificate: a machine of eight rules over lines, which are combinations of the
 //! hypotheses.
 //!
-//! Its state is defined in `specs/State.antt`, its rules in `specs/Machine.antt`, and its run in
-//! `specs/Runs.antt`.
+//! Its state is defined in `specs/State.antt`, its rules in `specs/Rules.antt`, and its run in
+//! `specs/Runs.antt`; `specs/Machine.antt` has the step as it is computed.
 #![tactic(auto)]
 
 mod basis;

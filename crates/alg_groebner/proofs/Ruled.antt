@@ -1,0 +1,86 @@
+-- At most one rule is taken, with at most one next state or end.
+use Rattle.std.specs.Prelude.{◌≡◌, ◌≢◌, ℕ, zero, suc, ◌+◌, ◌-◌, ◌<◌, ◌≤◌, ◌==◌, Bool, true, false, cond, nat_lt, List, [], ◌∷◌, Option, Some, None, length, All}
+use Rattle.std.proofs.Common.{refl, sym, ap, subst, ◌∙◌, ◌⊎◌, inl, inr, arith}
+use Rattle.std.proofs.lemmas.Bool.{cases_lt}
+use Rattle.alg_mono.specs.NumberedPolynomials.{Polynomial}
+use Rattle.alg_mono.specs.Outcomes.{is_nothing}
+use Rattle.alg_lines.specs.Lines.{line_at}
+use Rattle.alg_pairs.specs.declared.pair.Pair.{Pair}
+use Rattle.alg_groebner.specs.Choices.{remainder_at, reducer, first_reducible, zero_power}
+use Rattle.alg_groebner.specs.Leads.{reduces}
+use Rattle.alg_groebner.specs.Machine.{counted, by_pairs, by_inputs, by_reducible, by_reducer, by_line, by_current, by_power, next}
+use Rattle.alg_groebner.specs.Moves.{goal_outcome, goal_reduced, dropped, line_outcome, line_reduced, joined, next_taken, without_pair, pair_outcome, pair_taken}
+use Rattle.alg_groebner.specs.Rules.{IsLeast, IsZeroPower, ReducesIt, IsReducibleAt, IsLeastPair, Rule, Rule1, Rule2, Rule3, Rule4, Rule5, Rule6, Rule7, Rule8, number, Does, Takes, Rises, ArePairsRising, IsInOrder}
+use Rattle.alg_groebner.specs.Sound.{IsIn}
+use Rattle.alg_groebner.specs.State.{State, End, Next, Goes, Ends}
+use Rattle.alg_groebner.specs.declared.remainder.Remainder.{Remainder}
+use Rattle.alg_groebner.proofs.Adding.{is_less, not_less}
+use Rattle.alg_groebner.proofs.Found.{same_some, none_some}
+use Rattle.alg_groebner.proofs.Least.{find_first, find_none, position_first, position_none, reducible_first, reducible_none}
+
+-- ---- at most one
+one_least : {P : ℕ → Type 0} (a b : ℕ) → IsLeast P a → IsLeast P b → a ≡ b
+one_least a b g h =
+    let low = g.least b h.holds in
+    let high = h.least a g.holds in
+    omega arith
+
+rule_of : ℕ → Rule
+rule_of n =
+    cond (n == 1) Rule1 (cond (n == 2) Rule2 (cond (n == 3) Rule3 (cond (n == 4) Rule4
+    (cond (n == 5) Rule5 (cond (n == 6) Rule6 (cond (n == 7) Rule7 Rule8))))))
+
+numbered : (r : Rule) → rule_of (number r) ≡ r
+unfolding rule_of
+numbered Rule1 = refl
+numbered Rule2 = refl
+numbered Rule3 = refl
+numbered Rule4 = refl
+numbered Rule5 = refl
+numbered Rule6 = refl
+numbered Rule7 = refl
+numbered Rule8 = refl
+
+pub same_rule : (r s : Rule) → number r ≡ number s → r ≡ s
+same_rule r s e = sym (numbered r) ∙ ap rule_of e ∙ numbered s
+
+pub same_line : (o : Option ℕ) (k l : ℕ) → o ≡ Some k → o ≡ Some l → k ≡ l
+same_line o k l e f = same_some k l (sym e ∙ f)
+
+same_first : (x y : Pair) (xs ys : List Pair) → ◌≡◌ {A = List Pair} (x ∷ xs) (y ∷ ys) → (x ≡ y) × (xs ≡ ys)
+same_first x y xs ys e = (cc e, cc e)
+
+module _ (limit : ℕ) (st : State) where
+  one_move : (r : Rule) (x y : Next) → Does limit st r x → Does limit st r y → x ≡ y
+  one_move Rule1 x y d e =
+      let same = one_least d.0 e.0 d.1 e.1 in
+      d.2 ∙ ap (λ r. Ends (End.Proved r)) same ∙ sym e.2
+  one_move Rule2 x y d e =
+      let place = one_least d.0 e.0 d.3 e.3 in
+      let there = subst (λ r. IsLeast (ReducesIt st (remainder_at st.remainders r).rest) d.1) place d.4 in
+      let line = one_least d.1 e.1 there e.4 in
+      d.5 ∙ (λ i. counted limit st (goal_outcome st (place i) (line i)) (goal_reduced st (place i) (line i))) ∙ sym e.5
+  one_move Rule3 x y d e = d.3 ∙ sym e.3
+  one_move Rule4 x y d e =
+      let k = same_line st.current d.0 e.0 d.2 e.2 in
+      let there = subst (λ k. IsLeast (ReducesIt st (line_at st.lines k)) d.1) k d.3 in
+      let line = one_least d.1 e.1 there e.3 in
+      d.4 ∙ (λ i. counted limit st (line_outcome st (k i) (line i)) (line_reduced st (k i) (line i))) ∙ sym e.4
+  one_move Rule5 x y d e =
+      let k = same_line st.current d.0 e.0 d.1 e.1 in
+      d.2 ∙ ap (λ k. Goes (joined st k)) k ∙ sym e.2
+  one_move Rule6 x y d e = d.1 ∙ sym e.1
+  one_move Rule7 x y d e =
+      let same = same_first d.0 e.0 d.1 e.1 (sym d.2.0 ∙ e.2.0) in
+      let p = same.0 in
+      let ps = same.1 in
+      d.3 ∙ (λ i. counted limit st (pair_outcome st (p i).i (p i).j)
+      (pair_taken (without_pair st (ps i)) (p i).i (p i).j)) ∙ sym e.3
+  one_move Rule8 x y d e = d ∙ sym e
+
+  pub one_taken : (x y : Next) → Takes limit st x → Takes limit st y → x ≡ y
+  one_taken x y t u =
+      let low = t.first u.rule y u.does in
+      let high = u.first t.rule x t.does in
+      let same = same_rule t.rule u.rule (omega arith) in
+      one_move u.rule x y (subst (λ r. Does limit st r x) same t.does) u.does
