@@ -10,7 +10,7 @@ use Rattle.alg_mono.specs.Monomials.{exponent, Divides}
 use Rattle.alg_mono.proofs.Canonical.{equal}
 use Rattle.alg_mono.proofs.Lcm.{divides_product}
 use Rattle.alg_groebner.specs.Leads.{coprime, reduces}
-use Rattle.alg_groebner.proofs.Leading.{divides_says}
+use Rattle.alg_pairs.proofs.Dividing.{divides_says}
 use Rattle.alg_criterion.proofs.Numbered.{IsWithin, mono_times, mono_over}
 use Rattle.alg_criterion.proofs.Quotients.{within_over, exponent-over, same_mono, times_comm}
 use Rattle.alg_criterion.proofs.Spans.{Led, whole}

@@ -15,7 +15,7 @@ use Rattle.alg_mono.specs.Polynomials.{IsPolynomial}
 use Rattle.alg_mono.proofs.Lcm.{divides_product}
 use Rattle.alg_groebner.specs.Cancelling.{lead_lcm, s_polynomial}
 use Rattle.alg_groebner.specs.Leads.{reduces}
-use Rattle.alg_groebner.proofs.Leading.{divides_says}
+use Rattle.alg_pairs.proofs.Dividing.{divides_says}
 use Rattle.alg_criterion.specs.Combinations.{Part, IsPart, IsBelowOver, ArePairsBelow}
 use Rattle.alg_criterion.specs.Laws.{IsBasisLine, LeadsDivide}
 use Rattle.alg_criterion.proofs.Spans.{Every, Led, whole, IsLine, Spans, Under, ArePairsBelowLcm, s_entries}
