@@ -9,6 +9,7 @@ use Rattle.alg_poly.specs.Divisors.{IsDivisible}
 use Rattle.alg_lines.specs.Accepting.{IsOneOf, IsGoodLine, AreLines, AreSteps}
 use Rattle.alg_lines.specs.declared.cert.Line.{Line}
 use Rattle.alg_lines.specs.declared.cert.GoalStep.{GoalStep}
+use Rattle.alg_groebner.specs.Cited.{CiteEarlier}
 use Rattle.alg_groebner.specs.Pruning.{mark, mark_steps, mark_line, mark_lines, numbers_after, number_of, renumbered_line, renumbered_step, kept_lines}
 
 no : false ≡ true → ⊥
@@ -191,13 +192,9 @@ pub steps_rise : (ss : List GoalStep) (bs : List Bool) (k : ℕ) → At bs k →
 steps_rise [] bs k h = h
 steps_rise (s ∷ ss) bs k h = steps_rise ss (mark bs s.j) k (set_rises bs (s.j - 1) k h)
 
--- each line cites lesser numbers; the first of the list has the place p
-abbrev pub Bounded : ℕ → List Line → Type 0
-Bounded p [] = Unit {0}
-Bounded p (l ∷ ls) = ((1 ≤ l.i) × (l.i ≤ p) × (1 ≤ l.j) × (l.j ≤ p)) × Bounded (p + 1) ls
-
+-- each line cites lesser numbers
 pub bounded : (lines : List Polynomial) (p : ℕ) (ls : List Line) (all : List Polynomial) → p ≡ length lines → AreLines
-    lines ls all → Bounded p ls
+    lines ls all → CiteEarlier p ls
 bounded lines p [] all e a = tt
 bounded lines p (l ∷ ls) all e a =
     let i = a.1.0.first in
@@ -216,7 +213,7 @@ closed_more v bs p q (l ∷ ls) h f g c = (
   closed_more v bs p (q + 1) ls (omega arith) f g c.1,
 )
 
-pub closed : (p : ℕ) (ls : List Line) (marks : List Bool) → Bounded p ls → p + length ls ≤ length marks →
+pub closed : (p : ℕ) (ls : List Line) (marks : List Bool) → CiteEarlier p ls → p + length ls ≤ length marks →
     ((q : ℕ) (ks : List Line) → length (mark_lines q ks marks) ≡ length marks) → Closed (mark_lines p ls marks) p ls
 closed p [] marks b h len = tt
 closed p (l ∷ ls) marks b h len =

@@ -22,6 +22,7 @@ pub mod Faithful
 pub mod Followed
 pub mod Pruned
 pub mod Kept
+pub mod Marked
 pub mod Certified
 pub mod Shown
 pub mod Queued

@@ -1,11 +1,14 @@
 -- Laws of the search machine.
-use Rattle.std.specs.Prelude.{◌≡◌, ℕ, ◌<◌, ◌≤◌, ◌^◌, List, length, All}
+use Rattle.std.specs.Prelude.{◌≡◌, ℕ, ◌+◌, ◌-◌, ◌<◌, ◌≤◌, ◌^◌, ◌↔◌, true, false, List, length, All, slice_index_or}
 use Rattle.std.specs.Ordering.{nat_cmp}
 use Rattle.alg_mono.specs.Numbers.{integers}
 use Rattle.alg_mono.specs.Polynomials.{IsPolynomial}
 use Rattle.alg_mono.specs.NumberedPolynomials.{Polynomial}
 use Rattle.alg_lines.specs.Accepting.{IsGood}
-use Rattle.alg_groebner.specs.Pruning.{certificate}
+use Rattle.alg_lines.specs.declared.cert.Line.{Line}
+use Rattle.alg_lines.specs.declared.cert.GoalStep.{GoalStep}
+use Rattle.alg_groebner.specs.Cited.{IsCited, CiteEarlier, CiteLines}
+use Rattle.alg_groebner.specs.Pruning.{marks_of, certificate}
 use Rattle.alg_groebner.specs.Rules.{Takes, IsInOrder}
 use Rattle.alg_groebner.specs.State.{State, End, Proved, Next, Goes}
 use Rattle.alg_groebner.specs.Runs.{Runs, Comes, first_state}
@@ -40,3 +43,11 @@ CertificatesAreGood =
     (hyps : List Polynomial) (g : Polynomial) (power limit : ℕ) → All (λ p. IsPolynomial nat_cmp integers p) hyps →
     length hyps < 2 ^ 31 → power ≤ 16 → limit ≤ 1000000 →
     (last : State) (r : ℕ) → Comes hyps g power limit last (Proved r) → IsGood hyps g (certificate last r)
+
+-- of the lines beyond the hypotheses exactly those are marked that the steps cite, directly or through other lines; the
+-- marked lines are those that a certificate keeps
+abbrev pub MarksAreCited : Type 0
+MarksAreCited =
+    (given : ℕ) (made : List Line) (steps : List GoalStep) → CiteEarlier given made →
+    CiteLines (given + length made) steps → (n : ℕ) → given < n → n ≤ given + length made →
+    (slice_index_or (marks_of given made steps) (n - 1) false ≡ true) ↔ IsCited given made steps n

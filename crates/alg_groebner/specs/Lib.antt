@@ -10,6 +10,7 @@ pub mod Rules
 pub mod Runs
 pub mod Follows
 pub mod Pruning
+pub mod Cited
 pub mod Laws
 pub mod Work
 pub mod Working
