@@ -23,7 +23,7 @@ use Rattle.alg_mono.specs.Polynomials.{IsPolynomial, poly_neg}
 use Rattle.alg_mono.specs.Mono.{Monomial}
 use Rattle.alg_mono.specs.NumberedPolynomials.{Polynomial, before, term_of, multiple_of}
 use Rattle.alg_lines.specs.Lines.{line_at, combination, IsLineOf, IsStepOf}
-use Rattle.alg_lines.specs.Accepting.{IsOneOf, IsGoodLine, IsGoodStep, AreLines, AreSteps}
+use Rattle.alg_lines.specs.Accepting.{IsOneOf, IsGoodLine, IsGoodStep, AreSteps}
 use Rattle.alg_lines.specs.declared.cert.Line.{Line}
 use Rattle.alg_lines.specs.declared.cert.GoalStep.{GoalStep}
 use Rattle.alg_groebner.specs.Leads.{leading}
@@ -31,24 +31,6 @@ use Rattle.alg_groebner.specs.Divisors.{common}
 use Rattle.alg_groebner.specs.Cancelling.{left_factor, right_factor, crossed, cancelled, cancel_outcome}
 use Rattle.alg_groebner.proofs.Exact.{exactly, content_positive, IsPolynomial-over}
 use Rattle.alg_groebner.proofs.Divisors.{common_divides, content_divides, some_size}
-
--- ---- one more line, one more step
-pub lines_more : (lines : List Polynomial) (ls : List Line) (all : List Polynomial) (l : Line) (new : Polynomial) →
-    AreLines lines ls all → IsGoodLine all l × IsLineOf all l new → AreLines lines (ls ++ l ∷ []) (all ++ new ∷ [])
-lines_more lines [] all l new h g = (
-  new,
-  subst (λ (xs : List Polynomial). IsGoodLine xs l × IsLineOf xs l new) h g,
-  ap
-      (λ (xs : List Polynomial). xs ++ new ∷ []) h,
-)
-lines_more lines (k ∷ ls) all l new h g = (h.0, h.1, lines_more (lines ++ h.0 ∷ []) ls all l new h.2 g)
-
-pub steps_more : (lines : List Polynomial) (g : Polynomial) (ss : List GoalStep) (h : Polynomial) (s : GoalStep)
-    (after : Polynomial) →
-    AreSteps lines g ss h → IsGoodStep lines s h × IsStepOf lines s h after → AreSteps lines g (ss ++ s ∷ []) after
-steps_more lines g [] h s after a b =
-    (after, subst (λ (x : Polynomial). IsGoodStep lines s x × IsStepOf lines s x after) a b, refl)
-steps_more lines g (t ∷ ss) h s after a b = (a.0, a.1, steps_more lines a.0 ss h s after a.2 b)
 
 -- a longer list of lines keeps the steps
 at_longer : (lines : List Polynomial) (p : Polynomial) (k : ℕ) → IsOneOf lines k → line_at (lines ++ p ∷ []) k ≡
