@@ -13,10 +13,11 @@ use Rattle.alg_mono.specs.FiniteMaps.{amount, row, all_some}
 use Rattle.alg_mono.specs.Numbers.{integers, is_zero}
 use Rattle.alg_mono.proofs.Canonical.{first, second, less, both}
 use Rattle.alg_mono.proofs.Numbers.{*ℤ_comm, *ℤ_assoc, one-*ℤ}
-use Rattle.alg_criterion.proofs.Spans.{Every, Led, whole, Summand, summed, top, Under, IsLine, IsGood, Spans, ArePairsBelow, IsReducible}
-use Rattle.alg_criterion.proofs.Whole.{product_apart, one_apart, moved, turn_under, turn_equal}
-use Rattle.alg_criterion.proofs.Rows.{at-append, at-row_one, above_top, at_top, above_all}
-use Rattle.alg_criterion.proofs.Summing.{every-append, scaled, at-summed-append, at-scaled}
+use Rattle.alg_criterion.proofs.Spans.{Every, Led, whole, Summand, summed, top, Under, UpTo, IsLine, IsGood, Spans, ArePairsBelow, IsReducible}
+use Rattle.alg_criterion.proofs.Whole.{product_apart}
+use Rattle.alg_criterion.proofs.Rows.{above_top, at_top, above_all}
+use Rattle.alg_criterion.proofs.Pivots.{pivot, leading_apart}
+use Rattle.alg_criterion.proofs.Greatest.{greatest}
 
 module _ {M : Type 0} {cmp : M → M → Ordering} (o : IsTotalOrder cmp) (anti : IsAntisymmetric cmp) (times : M → M →
     M) (times_comm : (m n : M) → times m n ≡ times n m)
@@ -30,166 +31,6 @@ module _ {M : Type 0} {cmp : M → M → Ordering} (o : IsTotalOrder cmp) (anti 
 
   abbrev val : M → List (M × ℤ) → ℤ
   val q p = amount cmp integers.amounts q p
-
-  abbrev one : M → Summand M → List (M × ℤ)
-  one q t = row times ◌*ℤ◌ t.by (pos 1) (whole t.line)
-
-  every-scaled : (Low : M → Type 0) (c : ℤ) (ts : List (Summand M)) → Every (Good Low) ts →
-      Every (Good Low) (scaled c ts)
-  every-scaled Low c [] h = tt
-  every-scaled Low c (t ∷ ts) h = (
-    record { ok = h.0.ok; member = h.0.member; low = h.0.low },
-    every-scaled Low c ts h.1,
-  )
-
-  abbrev Upto : M → M → Type 0
-  Upto w v = (cmp w v ≡ Less) ⊎ (w ≡ v)
-
-  -- e times the sum is s times the pivot and a sum of products below w
-  record Pivoted (w : M) (m₀ : M) (l₀ : Led M) (ts : List (Summand M)) : Type 0 where
-    multiple : ℤ
-    some : multiple ≢ pos 0
-    share : ℤ
-    below : List (Summand M)
-    good : Every (Good (Under cmp times Ok w)) below
-    same : (q : M) → multiple *ℤ val q (summed times ts) ≡ (share *ℤ val q (row times ◌*ℤ◌ m₀ (pos 1) (whole l₀)))
-        +ℤ val q (summed times below)
-
-  leading_apart : (l : Led M) → In l → l.leading ≢ pos 0
-  leading_apart l i e = subst (λ (z : ℤ). T (not (is_zero z))) e
-      (first (not (is_zero l.leading)) (all_some cmp integers.amounts l.rest) (line l i).canonical.no_none)
-
-  pivot : (w m₀ : M) (l₀ : Led M) → Ok m₀ → In l₀ → times m₀ l₀.lead ≡ w → (ts : List (Summand M)) →
-      Every (Good (Upto w)) ts → Pivoted w m₀ l₀ ts
-  pivot w m₀ l₀ ok₀ in₀ at_w [] g = record {
-    multiple = pos 1;
-    some = one_apart;
-    share = pos 0;
-    below = [];
-    good =
-        tt;
-    same = λ q. refl' (val q (row times ◌*ℤ◌ m₀ (pos 1) (whole l₀)));
-  }
-    where
-      refl' : (y : ℤ) → pos 1 *ℤ pos 0 ≡ (pos 0 *ℤ y) +ℤ pos 0
-      refl' y = sym (ap (λ x. x +ℤ pos 0) (zero-*ℤ y))
-  pivot w m₀ l₀ ok₀ in₀ at_w (t ∷ ts) g =
-      let r = pivot w m₀ l₀ ok₀ in₀ at_w ts g.1 in
-      elim g.0.low [
-        | inl u ↦ record {
-          multiple = r.multiple;
-          some = r.some;
-          share = r.share;
-          below = record t { factor = r.multiple *ℤ t.factor } ∷ r.below;
-          good = (record { ok = g.0.ok; member = g.0.member; low = u }, r.good);
-          same = λ q.
-              let x = row times ◌*ℤ◌ t.by t.factor (whole t.line) in
-              let x1 = row times ◌*ℤ◌ t.by (pos 1) (whole t.line) in
-              let y = row times ◌*ℤ◌ m₀ (pos 1) (whole l₀) in
-              ap (λ z. r.multiple *ℤ z) (at-append cmp q x (summed times ts)
-              ∙ ap (λ z. z +ℤ val q (summed times ts)) (at-row_one cmp times q t.by t.factor (whole t.line)))
-              ∙ turn_under r.multiple t.factor r.share (val q x1) (val q y) (val q (summed times ts))
-              (val q (summed times r.below)) (r.same q)
-              ∙ ap (λ z. (r.share *ℤ val q y) +ℤ z) (sym (at-append cmp q
-              (row times ◌*ℤ◌ t.by (r.multiple *ℤ t.factor) (whole t.line)) (summed times r.below)
-              ∙ ap (λ z. z +ℤ val q (summed times r.below)) (at-row_one cmp times q t.by (r.multiple *ℤ t.factor)
-              (whole t.line))));
-        }
-        | inr e ↦
-            let d = pairs_below t.line l₀ g.0.member in₀ t.by m₀ g.0.ok ok₀ (sym e ∙ sym at_w) in
-            let dg : Every (Good (Under cmp times Ok w)) d.terms = subst
-            (λ v. Every (Good (Under cmp times Ok v)) d.terms) (sym e) d.good in
-            let b = l₀.leading in
-            let a = t.line.leading in
-            let c1 = r.multiple *ℤ t.factor in
-            let c2 = d.multiple *ℤ b in
-            record {
-              multiple = (r.multiple *ℤ d.multiple) *ℤ b;
-              some = product_apart (r.multiple *ℤ d.multiple) b (product_apart r.multiple d.multiple r.some d.some)
-                  (leading_apart l₀ in₀);
-              share = ((c1 *ℤ d.multiple) *ℤ a) +ℤ (c2 *ℤ r.share);
-              below = scaled c1 d.terms ++ scaled c2 r.below;
-              good = every-append (Good (Under cmp times Ok w)) (scaled c1 d.terms) (scaled c2 r.below)
-                  (every-scaled (Under cmp times Ok w) c1 d.terms dg) (every-scaled (Under cmp times Ok w)
-                  c2 r.below r.good);
-              same = λ q.
-                  let x = row times ◌*ℤ◌ t.by t.factor (whole t.line) in
-                  let x1 = val q (row times ◌*ℤ◌ t.by (pos 1) (whole t.line)) in
-                  let y = val q (row times ◌*ℤ◌ m₀ (pos 1) (whole l₀)) in
-                  let u = val q (summed times d.terms) in
-                  let v = val q (summed times r.below) in
-                  let h : d.multiple *ℤ ((b *ℤ x1) +ℤ (neg_ℤ a *ℤ y)) ≡ u =
-                  ap (λ z. d.multiple *ℤ z) (sym (at-append cmp q (row times ◌*ℤ◌ t.by b (whole t.line))
-                  (row times ◌*ℤ◌ m₀ (neg_ℤ a) (whole l₀))
-                  ∙ (λ i. at-row_one cmp times q t.by b (whole t.line) i +ℤ at-row_one cmp times q m₀ (neg_ℤ a)
-                  (whole l₀) i))) ∙ d.same q in
-                  ap (λ z. ((r.multiple *ℤ d.multiple) *ℤ b) *ℤ z) (at-append cmp q x (summed times ts)
-                  ∙ ap (λ z. z +ℤ val q (summed times ts)) (at-row_one cmp times q t.by t.factor (whole t.line)))
-                  ∙ turn_equal r.multiple d.multiple b a t.factor r.share x1 y (val q (summed times ts)) u v
-                  (moved d.multiple b a x1 y u h) (r.same q)
-                  ∙ ap (λ z. ((((c1 *ℤ d.multiple) *ℤ a) +ℤ (c2 *ℤ r.share)) *ℤ y) +ℤ z)
-                  (sym (at-summed-append cmp times q (scaled c1 d.terms) (scaled c2 r.below)
-                  ∙ (λ i. at-scaled cmp times q c1 d.terms i +ℤ at-scaled cmp times q c2 r.below i)));
-            }
-      ]
-
-  -- the greatest summand
-  record Greatest (ts : List (Summand M)) (Low : M → Type 0) : Type 0 where
-    summand : Summand M
-    good : Good Low summand
-    all : Every (Good (Upto (top times summand))) ts
-
-  weaker : (Low High : M → Type 0) → ((v : M) → Low v → High v) → (ts : List (Summand M)) → Every (Good Low) ts →
-      Every (Good High) ts
-  weaker Low High f [] g = tt
-  weaker Low High f (t ∷ ts) g = (
-    record { ok = g.0.ok; member = g.0.member; low = f (top times t) g.0.low },
-    weaker Low High f ts g.1,
-  )
-
-  upto_trans : (a b v : M) → cmp a b ≡ Less → Upto b v → Upto a v
-  upto_trans a b v p (inl q) = inl (o.trans a b v p q)
-  upto_trans a b v p (inr e) = inl (subst (λ x. cmp a x ≡ Less) e p)
-
-  greatest : (Low : M → Type 0) (t : Summand M) (ts : List (Summand M)) → Good Low t → Every (Good Low) ts →
-      Greatest (t ∷ ts) Low
-  greatest Low t [] g h = record {
-    summand = t;
-    good = g;
-    all =
-        (record { ok = g.ok; member = g.member; low = inr refl }, tt);
-  }
-  greatest Low t (s ∷ ts) g h =
-      let r = greatest Low s ts h.0 h.1 in
-      let a = top times t in
-      let b = top times r.summand in
-      elim (cmp a b) as (λ x. cmp a b ≡ x → Greatest (t ∷ s ∷ ts) Low) [
-        | Less ↦ λ p. record {
-          summand = t;
-          good = g;
-          all = (
-            record {
-              ok = g.ok;
-              member = g.member;
-              low =
-                  inr refl;
-            },
-            weaker (Upto b) (Upto a) (λ v u. upto_trans a b v p u) (s ∷ ts) r.all,
-          );
-        }
-        | Equal ↦ λ p. record {
-          summand = r.summand;
-          good = r.good;
-          all =
-              (record { ok = g.ok; member = g.member; low = inr (sym (anti a b p)) }, r.all);
-        }
-        | Greater ↦ λ p. record {
-          summand = r.summand;
-          good = r.good;
-          all =
-              (record { ok = g.ok; member = g.member; low = inl (o.antisymm b a ∙ ap ordering_reverse p) }, r.all);
-        }
-      ] refl
 
   module _ (p : Led M) (is_line : IsLine cmp times Ok p) where
     abbrev Goal : Type 0
@@ -219,7 +60,7 @@ module _ {M : Type 0} {cmp : M → M → Ordering} (o : IsTotalOrder cmp) (anti 
 
     abbrev Claim : M → Type 0
     Claim w = (m₀ : M) (l₀ : Led M) → Ok m₀ → In l₀ → times m₀ l₀.lead ≡ w →
-        Spans cmp times Ok In (Upto w) (whole p) → Goal
+        Spans cmp times Ok In (UpTo cmp w) (whole p) → Goal
 
     -- no products at all: p would be zero
     none_at_all : (k : ℤ) → k ≢ pos 0 → ((q : M) → k *ℤ val q (whole p) ≡ pos 0) → ⊥
@@ -227,7 +68,7 @@ module _ {M : Type 0} {cmp : M → M → Ordering} (o : IsTotalOrder cmp) (anti 
 
     step : (w : M) → Ok w → ((v : M) → Ok v → cmp w v ≡ Less → Claim v) → Claim w
     step w ok_w ih m₀ l₀ ok₀ in₀ at_w s =
-        let r = pivot w m₀ l₀ ok₀ in₀ at_w s.terms s.good in
+        let r = pivot cmp times Ok In line pairs_below w m₀ l₀ ok₀ in₀ at_w s.terms s.good in
         let k = r.multiple *ℤ s.multiple in
         let k_some = product_apart r.multiple s.multiple r.some s.some in
         let y = λ (q : M). val q (row times ◌*ℤ◌ m₀ (pos 1) (whole l₀)) in
@@ -244,7 +85,7 @@ module _ {M : Type 0} {cmp : M → M → Ordering} (o : IsTotalOrder cmp) (anti 
             ((q : M) → k *ℤ val q (whole p) ≡ val q (summed times ts)) → Goal
         finish_below k h [] g e = absurd (none_at_all k h e)
         finish_below k h (t ∷ ts) g e =
-            let x = greatest (Under cmp times Ok w) t ts g.0 g.1 in
+            let x = greatest o anti times Ok In (Under cmp times Ok w) t ts g.0 g.1 in
             ih (top times x.summand) (ok_times x.summand.by x.summand.line.lead x.good.ok
             ((line x.summand.line x.good.member).ok.0)) x.good.low
             x.summand.by x.summand.line x.good.ok x.good.member refl
@@ -271,7 +112,7 @@ module _ {M : Type 0} {cmp : M → M → Ordering} (o : IsTotalOrder cmp) (anti 
                 ∙ +ℤ_idr (share *ℤ l₀.leading)
 
             some_there : val w (whole p) ≢ pos 0
-            some_there e = product_apart share l₀.leading n (leading_apart l₀ in₀) (sym there ∙ ap (λ z. k *ℤ z) e
+            some_there e = product_apart share l₀.leading n (leading_apart cmp times Ok In line l₀ in₀) (sym there ∙ ap (λ z. k *ℤ z) e
                 ∙ *ℤ_comm k (pos 0) ∙ zero-*ℤ k)
 
             -- and nothing above it
@@ -284,7 +125,7 @@ module _ {M : Type 0} {cmp : M → M → Ordering} (o : IsTotalOrder cmp) (anti 
                 ∙ +ℤ_idr (share *ℤ pos 0) ∙ *ℤ_comm share (pos 0) ∙ zero-*ℤ share
 
             k_some : k ≢ pos 0
-            k_some e = product_apart share l₀.leading n (leading_apart l₀ in₀) (sym there
+            k_some e = product_apart share l₀.leading n (leading_apart cmp times Ok In line l₀ in₀) (sym there
                 ∙ ap (λ z. z *ℤ val w (whole p)) e ∙ zero-*ℤ (val w (whole p)))
 
             is_lead : w ≡ p.lead
@@ -302,7 +143,7 @@ module _ {M : Type 0} {cmp : M → M → Ordering} (o : IsTotalOrder cmp) (anti 
             ((q : M) → k *ℤ val q (whole p) ≡ val q (summed times ts)) → Goal
         go k h [] g e = absurd (none_at_all k h e)
         go k h (t ∷ ts) g e =
-            let x = greatest (λ v. Unit {0}) t ts g.0 g.1 in
+            let x = greatest o anti times Ok In (λ v. Unit {0}) t ts g.0 g.1 in
             let ok_top = ok_times x.summand.by x.summand.line.lead x.good.ok
             ((line x.summand.line x.good.member).ok.0) in
             falls Claim step (top times x.summand) ok_top x.summand.by x.summand.line x.good.ok x.good.member refl

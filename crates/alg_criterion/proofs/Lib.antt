@@ -4,6 +4,8 @@ mod Machine
 mod Whole
 mod Rows
 mod Summing
+mod Pivots
+mod Greatest
 mod Criterion
 mod Descent
 mod Lifts
@@ -31,6 +33,8 @@ mod Commons
 mod Seeing
 mod Joining
 mod Reducing
+mod Fine
+mod Moved
 mod Linked
 mod Running
 mod Theorem

@@ -33,291 +33,103 @@ use Rattle.alg_criterion.proofs.Lists.{whole-led_of, lead-led_of}
 use Rattle.alg_criterion.proofs.Members.{has_mapped, has_from, has_in, found_in, insert_self, insert_grows, insert_split}
 use Rattle.alg_criterion.proofs.Cancelled.{reduct_at, s_at}
 use Rattle.alg_criterion.proofs.Commons.{are_coprime}
+use Rattle.alg_criterion.proofs.Fine.{IsFine, IsDone, After}
+use Rattle.alg_criterion.proofs.Moved.{i, goal_after, dropped_after, line_after, joined_after, taken_after, pair_after}
 use Rattle.alg_criterion.proofs.Seeing.{led_at, led_pair, current_of, rests, seen, line_seen}
 use Rattle.alg_criterion.proofs.Joining.{same_led, pairs_grow, pairs_meet}
 use Rattle.alg_criterion.proofs.Reducing.{reducible_in, set_steps, all_reduced}
 
-abbrev IsP : ℕ → Polynomial → Type 0
-IsP b p = IsPoly falling mono_times mono_over (IsWithin b) p
-
-abbrev IsL : ℕ → Led Monomial → Type 0
-IsL b l = IsLine falling mono_times (IsWithin b) l
-
 module _ (b : ℕ) (hyps powers : List Polynomial) (hyps_ok : Every (IsPoly falling mono_times mono_over (IsWithin b))
     hyps)
     (powers_ok : Every (IsPoly falling mono_times mono_over (IsWithin b)) powers) where
-  -- the state is reached
-  pub record IsFine (st : State) : Type 0 where
-    pub made : List Polynomial
-    pub reached : Reached falling mono_times mono_over (IsWithin b) hyps powers (seen hyps st made)
-    pub lines : st.lines ≡ hyps ++ made
-    pub given : st.given ≡ length hyps
-    pub count : length st.remainders ≡ length powers
+  abbrev Fine : State → Type 0
+  Fine st = IsFine b hyps powers hyps_ok powers_ok st
 
-  -- and nothing is left to do there
-  pub record IsDone (st : State) (r : ℕ) : Type 0 where
-    pub fine : IsFine st
-    pub over : IsOver falling mono_times mono_over (IsWithin b) (seen hyps st fine.made)
-    pub power : r ≡ length powers
+  abbrev Done : State → ℕ → Type 0
+  Done st r = IsDone b hyps powers hyps_ok powers_ok st r
 
-  abbrev pub After : State → Next → Type 0
-  After st (Goes to) = IsFine to
-  After st (Ends (End.Proved r)) = Unit {0}
-  After st (Ends (End.NoneUpTo r)) = IsDone st r
-  After st (Ends End.GaveUp) = Unit {0}
-  After st (Ends End.Range) = Unit {0}
-  After st (Ends End.Degree) = Unit {0}
+  abbrev Then : State → Next → Type 0
+  Then st x = After b hyps powers hyps_ok powers_ok st x
 
-  module _ (limit : ℕ) (st : State) (s : IsSound limit st) (f : IsFine st) where
-    i : Inv (monomials b) hyps powers hyps_ok powers_ok (seen hyps st f.made)
-    i = inv (monomials b) hyps powers hyps_ok powers_ok (seen hyps st f.made) f.reached
-
-    abbrev basis : List (Led Monomial)
-    basis = map (led_at st.lines) st.basis
-
-    member : (k : ℕ) → Has k st.basis → Has (led_at st.lines k) basis
-    member k h = has_mapped (led_at st.lines) k st.basis h
-
-    made_after : (to : State) (o : Outcome) → IsFine to → After st (made o to)
+  module _ (limit : ℕ) (st : State) (s : IsSound limit st) (f : Fine st) where
+    made_after : (to : State) (o : Outcome) → Fine to → Then st (made o to)
     made_after to Outcome.Fine h = h
     made_after to Outcome.Range h = tt
     made_after to Outcome.Degree h = tt
 
-    counted_after : (to : State) (o : Outcome) → IsFine to → After st (counted limit st o to)
+    counted_after : (to : State) (o : Outcome) → Fine to → Then st (counted limit st o to)
     counted_after to o h =
-        elim (nat_lt st.count limit) as (λ c. After st (cond c (made o to) (Ends End.GaveUp)))
+        elim (nat_lt st.count limit) as (λ c. Then st (cond c (made o to) (Ends End.GaveUp)))
         [ true ↦ made_after to o h | false ↦ tt ]
-
-    abbrev Reach : List Polynomial → State → Type 0
-    Reach new to = Reached falling mono_times mono_over (IsWithin b) hyps powers (seen hyps to new)
-
-    more_lines : (p : Polynomial) → st.lines ++ p ∷ [] ≡ hyps ++ (f.made ++ p ∷ [])
-    more_lines p = ap (λ (xs : List Polynomial). xs ++ p ∷ []) f.lines ∙ append_assoc hyps f.made (p ∷ [])
-
-    -- rule 2
-    goal_after : (r j : ℕ) → first_reducible st.lines st.basis 0 st.remainders ≡ Some (r, j) →
-        IsFine (goal_reduced st r j)
-    unfolding stepped
-    goal_after r j e =
-        let says = reducible_says st.lines st.basis st.remainders 0 r j e in
-        let same : r - 0 ≡ r = omega arith in
-        let g = remainder_at st.remainders r in
-        let q = line_at st.lines j in
-        let test : reduces q g.rest ≡ true =
-        subst (λ k. reduces q (remainder_at st.remainders k).rest ≡ true) same says.2 in
-        let h = member j (reducible_in st.lines st.basis st.remainders 0 r j e) in
-        let y = stepped g (quotient g.rest q) j (reduced g.rest q) in
-        record {
-          made = f.made;
-          reached = steps (seen hyps st f.made) f.reached (rests (goal_reduced st r j))
-              (set_steps b basis st.remainders (λ g. g.rest) r y (record { rest = []; steps = [] })
-              (λ l. inr (
-                led_at st.lines j,
-                h,
-                reduct_at b g.rest q (rest_is st.remainders (λ g. g.rest) i.rests r
-                    (record { rest = []; steps = [] }) l) (i.line (led_at st.lines j) h) test,
-              )));
-          lines = f.lines;
-          given = f.given;
-          count = length-set st.remainders r y ∙ f.count;
-        }
-      where
-        rest_is : {A : Type 0} (gs : List A) (rest : A → Polynomial) → Every (IsP b) (map rest gs) →
-            (r : ℕ) (d : A) → r < length gs →
-            IsP b (rest (get_or gs r d))
-        rest_is [] rest h r d l = absurd (omega arith)
-        rest_is (g ∷ gs) rest h zero d l = h.0
-        rest_is (g ∷ gs) rest h (suc r) d l = rest_is gs rest h.1 r d (omega arith)
-
-    -- rule 3
-    dropped_after : (k : ℕ) → st.current ≡ Some k → line_at st.lines k ≡ [] → IsFine (dropped st)
-    dropped_after k e z = record {
-      made = f.made;
-      reached = drops (seen hyps st f.made) f.reached (ap (current_of st.lines) e ∙ ap Some z);
-      lines = f.lines;
-      given = f.given;
-      count = f.count;
-    }
-
-    -- rule 4
-    line_after : (k j : ℕ) → st.current ≡ Some k → reducer st.lines st.basis (line_at st.lines k) ≡ Some j →
-        IsFine (line_reduced st k j)
-    unfolding with_line
-    line_after k j e t =
-        let p = line_at st.lines k in
-        let q = line_at st.lines j in
-        let h = member j (found_in (λ n. reduces (line_at st.lines n) p) st.basis j t) in
-        let cur = ap (current_of st.lines) e in
-        let d = reduct_at b p q (i.current p cur) (i.line (led_at st.lines j) h)
-        (reducer_says st.lines st.basis p j t) in
-        let new = (reduced p q).poly in
-        record {
-          made = f.made ++ new ∷ [];
-          reached = subst (Reached falling mono_times mono_over (IsWithin b) hyps powers)
-              (sym (line_seen hyps st st.pairs f.made [] k (quotient p q) j p q s.basis s.pairs))
-              (reduces_move (seen hyps st f.made) f.reached p new cur (led_at st.lines j) h d);
-          lines = more_lines new;
-          given = f.given;
-          count = f.count;
-        }
-
-    -- the pairs after rule 5
-    abbrev joined_pairs : ℕ → List (Led Monomial × Led Monomial)
-    joined_pairs k = map (led_pair st.lines) (with_pairs st.lines k st.basis st.pairs)
-
-    abbrev Met : ℕ → Led Monomial → Type 0
-    Met k g =
-        let l = led_at st.lines k in
-        Has (g, l) (joined_pairs k) ⊎ Has (l, g) (joined_pairs k)
-        ⊎ AreCoprime falling mono_times mono_over (IsWithin b) g.lead l.lead
-
-    meets : (k : ℕ) → IsL b (led_at st.lines k) → (g : Led Monomial) →
-        (j : ℕ) × Has j st.basis × (g ≡ led_at st.lines j) → Met k g
-    meets k il g m =
-        let j = m.0 in
-        subst (Met k) (sym m.2) (elim (pairs_meet st.lines k st.basis st.pairs j m.1) [
-          | inl a ↦ inl a
-          | inr r ↦ elim r [
-            | inl a ↦ inr (inl a)
-            | inr c ↦ inr (inr (are_coprime b (led_at st.lines j).lead (led_at st.lines k).lead
-                (i.line (led_at st.lines j) (member j m.1)).ok.0 il.ok.0
-                (subst (λ v. coprime v (led_at st.lines k).lead ≡ true) (lead-led_of (line_at st.lines j))
-                (subst (λ v. coprime (lead (line_at st.lines j)) v ≡ true) (lead-led_of (line_at st.lines k)) c))))
-          ]
-        ])
-
-    -- rule 5
-    joined_after : (k : ℕ) → st.current ≡ Some k → line_at st.lines k ≢ [] → IsFine (joined st k)
-    joined_after k e some =
-        let l = led_at st.lines k in
-        let is_whole = whole-led_of (line_at st.lines k) some in
-        let cur = ap (current_of st.lines) e ∙ ap Some (sym is_whole) in
-        let il = poly_line (monomials b) l (i.current (whole l) cur) in
-        record {
-          made = f.made;
-          reached = joins (seen hyps st f.made) f.reached l cur
-              (map (led_at st.lines) (insert_key nat_cmp st.basis k))
-              (insert_self nat_cmp (led_at st.lines) (same_led st.lines) st.basis k)
-              (insert_grows nat_cmp (led_at st.lines) (same_led st.lines) st.basis k)
-              (insert_split nat_cmp (led_at st.lines) (same_led st.lines) st.basis k)
-              (map (led_pair st.lines) (with_pairs st.lines k st.basis st.pairs))
-              (pairs_grow st.lines k st.basis st.pairs)
-              (λ g h. meets k il g (has_from (led_at st.lines) g st.basis h));
-          lines = f.lines;
-          given = f.given;
-          count = f.count;
-        }
-
-    -- rule 6
-    taken_after : st.current ≡ None → st.taken < st.given → IsFine (next_taken st)
-    taken_after e more =
-        let n = st.taken in
-        let inside : n < length hyps = let g = f.given in omega arith in
-        let one : suc n ≡ n + 1 = omega arith in
-        let here : line_at st.lines (n + 1) ≡ get_or hyps n [] =
-        ap (λ (xs : List Polynomial). line_at xs (n + 1)) f.lines ∙ ap (line_at (hyps ++ f.made)) (sym one)
-        ∙ get_or_append_left hyps f.made [] n inside in
-        record {
-          made = f.made;
-          reached = takes (seen hyps st f.made) f.reached (ap (current_of st.lines) e) (line_at st.lines (n + 1))
-              (drop (n + 1) hyps)
-              (drop-cons hyps n [] inside ∙ (λ t. sym here t ∷ drop (one t) hyps));
-          lines = f.lines;
-          given = f.given;
-          count = f.count;
-        }
-
-    -- rule 7
-    pair_after : (x : Pair) (rest : List Pair) → st.current ≡ None → st.pairs ≡ x ∷ rest →
-        IsFine (pair_taken (without_pair st rest) x.i x.j)
-    unfolding with_line
-    pair_after x rest e k =
-        let p = line_at st.lines x.i in
-        let q = line_at st.lines x.j in
-        let members = All-head (AreMembers st.basis) x rest (subst (All (AreMembers st.basis)) k s.members) in
-        let both = subst (All (HasBoth st.lines)) k s.pairs in
-        let there = All-head (HasBoth st.lines) x rest both in
-        let hf = member x.i (has_in x.i st.basis members.0) in
-        let hg = member x.j (has_in x.j st.basis members.1) in
-        let d = s_at b p q there.0 there.1 (i.line (led_at st.lines x.i) hf) (i.line (led_at st.lines x.j) hg) in
-        let new = (s_polynomial p q).poly in
-        record {
-          made = f.made ++ new ∷ [];
-          reached = subst (Reached falling mono_times mono_over (IsWithin b) hyps powers)
-              (sym (line_seen hyps st rest f.made (left_lift p q) x.i (right_lift p q) x.j p q s.basis
-              (All-tail (HasBoth st.lines) x rest both)))
-              (pairs_up (seen hyps st f.made) f.reached (ap (current_of st.lines) e) (led_at st.lines x.i)
-              (led_at st.lines x.j) hf hg (map (led_pair st.lines) rest)
-              (λ v h. subst (λ ps. Has v (map (led_pair st.lines) ps)) k h) new d);
-          lines = more_lines new;
-          given = f.given;
-          count = f.count;
-        }
 
     -- ---- the first rule that applies
     module _ (zero : zero_power st.remainders ≡ None) where
       pairs_done : st.current ≡ None → first_reducible st.lines st.basis 0 st.remainders ≡ None →
-          st.given ≤ st.taken → st.pairs ≡ [] → IsDone st (length st.remainders)
+          st.given ≤ st.taken → st.pairs ≡ [] → Done st (length st.remainders)
       pairs_done c n t e = record {
         fine = f;
         over = record {
           current = ap (current_of st.lines) c;
           inputs = drop_all st.taken hyps (let g = f.given in omega arith);
           pairs = ap (map (led_pair st.lines)) e;
-          reduced = all_reduced b st.lines st.basis s.basis i.line st.remainders 0 1 n zero;
+          reduced = all_reduced b st.lines st.basis s.basis
+              (i b hyps powers hyps_ok powers_ok limit st s f).line st.remainders 0 1 n zero;
         };
         power = f.count;
       }
 
       pairs_after : st.current ≡ None → first_reducible st.lines st.basis 0 st.remainders ≡ None →
-          st.given ≤ st.taken → (xs : List Pair) → st.pairs ≡ xs → After st (by_pairs limit st xs)
+          st.given ≤ st.taken → (xs : List Pair) → st.pairs ≡ xs → Then st (by_pairs limit st xs)
       pairs_after c n t [] e = pairs_done c n t e
       pairs_after c n t (x ∷ rest) e =
-          counted_after (pair_taken (without_pair st rest) x.i x.j) (pair_outcome st x.i x.j) (pair_after x rest c e)
+          counted_after (pair_taken (without_pair st rest) x.i x.j) (pair_outcome st x.i x.j)
+          (pair_after b hyps powers hyps_ok powers_ok limit st s f x rest c e)
 
       inputs_after : st.current ≡ None → first_reducible st.lines st.basis 0 st.remainders ≡ None →
-          After st (by_inputs limit st)
+          Then st (by_inputs limit st)
       inputs_after c n =
           elim (cases_lt st.taken st.given) [
-            | inl h ↦ subst (λ t. After st (cond t (Goes (next_taken st)) (by_pairs limit st st.pairs)))
-                (sym (is_less st.taken st.given h)) (taken_after c h)
-            | inr h ↦ subst (λ t. After st (cond t (Goes (next_taken st)) (by_pairs limit st st.pairs)))
+            | inl h ↦ subst (λ t. Then st (cond t (Goes (next_taken st)) (by_pairs limit st st.pairs)))
+                (sym (is_less st.taken st.given h)) (taken_after b hyps powers hyps_ok powers_ok limit st s f c h)
+            | inr h ↦ subst (λ t. Then st (cond t (Goes (next_taken st)) (by_pairs limit st st.pairs)))
                 (sym (not_less st.taken st.given h)) (pairs_after c n h st.pairs refl)
           ]
 
       reducible_after : st.current ≡ None → (o : Option (ℕ × ℕ)) →
-          first_reducible st.lines st.basis 0 st.remainders ≡ o → After st (by_reducible limit st o)
+          first_reducible st.lines st.basis 0 st.remainders ≡ o → Then st (by_reducible limit st o)
       reducible_after c None e = inputs_after c e
       reducible_after c (Some x) e =
-          counted_after (goal_reduced st x.0 x.1) (goal_outcome st x.0 x.1) (goal_after x.0 x.1 e)
+          counted_after (goal_reduced st x.0 x.1) (goal_outcome st x.0 x.1)
+          (goal_after b hyps powers hyps_ok powers_ok limit st s f x.0 x.1 e)
 
       reducer_after : (k : ℕ) → st.current ≡ Some k → line_at st.lines k ≢ [] → (o : Option ℕ) →
-          reducer st.lines st.basis (line_at st.lines k) ≡ o → After st (by_reducer limit st k o)
-      reducer_after k c some None e = joined_after k c some
+          reducer st.lines st.basis (line_at st.lines k) ≡ o → Then st (by_reducer limit st k o)
+      reducer_after k c some None e = joined_after b hyps powers hyps_ok powers_ok limit st s f k c some
       reducer_after k c some (Some j) e =
-          counted_after (line_reduced st k j) (line_outcome st k j) (line_after k j c e)
+          counted_after (line_reduced st k j) (line_outcome st k j)
+          (line_after b hyps powers hyps_ok powers_ok limit st s f k j c e)
 
       line_rules_after : (k : ℕ) → st.current ≡ Some k → (p : Polynomial) → line_at st.lines k ≡ p →
-          After st (by_line limit st k p)
-      line_rules_after k c [] e = dropped_after k c e
+          Then st (by_line limit st k p)
+      line_rules_after k c [] e = dropped_after b hyps powers hyps_ok powers_ok limit st s f k c e
       line_rules_after k c (x ∷ p) e =
           reducer_after k c (subst (λ (q : Polynomial). q ≢ []) (sym e) (λ z. grind arith))
           (reducer st.lines st.basis (x ∷ p)) (ap (reducer st.lines st.basis) e)
 
-      current_after : (o : Option ℕ) → st.current ≡ o → After st (by_current limit st o)
+      current_after : (o : Option ℕ) → st.current ≡ o → Then st (by_current limit st o)
       current_after None c = reducible_after c (first_reducible st.lines st.basis 0 st.remainders) refl
       current_after (Some k) c = line_rules_after k c (line_at st.lines k) refl
 
-    power_after : (o : Option ℕ) → zero_power st.remainders ≡ o → After st (by_power limit st o)
+    power_after : (o : Option ℕ) → zero_power st.remainders ≡ o → Then st (by_power limit st o)
     power_after None z = current_after z st.current refl
     power_after (Some r) z = tt
 
-    pub after_next : After st (next limit st)
+    pub after_next : Then st (next limit st)
     unfolding next
     after_next = power_after (zero_power st.remainders) refl
 
-  pub run_fine : (limit : ℕ) (st last : State) (e : End) → Runs limit st last e → IsSound limit st → IsFine st →
-      IsFine last × After last (Ends e)
-  run_fine limit st last e (now h) s f = (f, subst (After st) h (after_next limit st s f))
+  pub run_fine : (limit : ℕ) (st last : State) (e : End) → Runs limit st last e → IsSound limit st → Fine st →
+      Fine last × Then last (Ends e)
+  run_fine limit st last e (now h) s f = (f, subst (Then st) h (after_next limit st s f))
   run_fine limit st last e (later {to = to} h r) s f =
-      run_fine limit to last e r ((goes_kept limit st to s h).0) (subst (After st) h (after_next limit st s f))
+      run_fine limit to last e r ((goes_kept limit st to s h).0) (subst (Then st) h (after_next limit st s f))

@@ -27,7 +27,8 @@ use Rattle.alg_criterion.proofs.Numbered.{IsWithin, mono_times, mono_over, falli
 use Rattle.alg_criterion.proofs.Quotients.{falling_total}
 use Rattle.alg_criterion.proofs.Bounds.{every_more, each_more, polys_bound}
 use Rattle.alg_criterion.proofs.Lists.{every_of}
-use Rattle.alg_criterion.proofs.Linked.{IsFine, After, run_fine}
+use Rattle.alg_criterion.proofs.Fine.{IsFine, After}
+use Rattle.alg_criterion.proofs.Linked.{run_fine}
 
 abbrev pub IsP : ℕ → Polynomial → Type 0
 IsP b p = IsPoly falling mono_times mono_over (IsWithin b) p

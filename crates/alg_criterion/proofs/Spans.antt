@@ -96,10 +96,14 @@ module _ {M : Type 0} (cmp : M → M → Ordering) (times : M → M → M) (Ok :
       pub ok : Ok quotient
       pub divides : times quotient line.lead ≡ p.lead
 
+-- v does not exceed w
+abbrev pub UpTo : {M : Type 0} → (M → M → Ordering) → M → M → Type 0
+UpTo cmp w v = (cmp w v ≡ Less) ⊎ (w ≡ v)
+
 -- the monomials that do not exceed the lead of h
 abbrev pub LowOf : {M : Type 0} → (M → M → Ordering) → List (M × ℤ) → M → Type 0
 LowOf cmp [] v = ⊥
-LowOf cmp (e ∷ h) v = (cmp e.0 v ≡ Less) ⊎ (e.0 ≡ v)
+LowOf cmp (e ∷ h) v = UpTo cmp e.0 v
 
 -- what the theory asks of the monomials: `over m n` is the part of m that n lacks, `Ok` tells the monomials that
 -- count, as those in the first n atoms

@@ -36,7 +36,7 @@ use Rattle.alg_criterion.proofs.Cancelled.{s_polynomial_is}
 use Rattle.alg_criterion.proofs.Pairs.{polynomial_spans}
 use Rattle.alg_criterion.proofs.Restated.{from_spans}
 use Rattle.alg_criterion.proofs.Seeing.{led_at, seen}
-use Rattle.alg_criterion.proofs.Linked.{IsDone}
+use Rattle.alg_criterion.proofs.Fine.{IsDone}
 use Rattle.alg_criterion.proofs.Running.{IsP, canonical_keys, power_list, length-powers, power_in, not_above, B, b, at_end}
 
 has_hyps : (hs : List Polynomial) → Every (λ h. Has h hs) hs

@@ -9,7 +9,7 @@ use Rattle.alg_mono.specs.Monomials.{MAX_DEGREE, degree, lcm}
 use Rattle.alg_pairs.specs.Order.{pair_cmp}
 use Rattle.alg_groebner.specs.Leads.{lead, coprime}
 use Rattle.alg_groebner.specs.Work.{with_ordered, with_member}
-use Rattle.alg_groebner.specs.declared.basis.Member.{Member}
+use Rattle.alg_groebner.specs.declared.member.Member.{Member}
 use Rattle.alg_groebner.specs.declared.queue.Queue.{Queue}
 
 pub not_less : (a b : ℕ) → b ≤ a → nat_lt a b ≡ false

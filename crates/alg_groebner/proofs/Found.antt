@@ -8,7 +8,7 @@ use Rattle.alg_mono.specs.NumberedPolynomials.{Polynomial}
 use Rattle.alg_groebner.specs.Leads.{reduces}
 use Rattle.alg_groebner.specs.Choices.{remainder_at}
 use Rattle.alg_groebner.specs.Work.{member_reducer, member_found, member_reducible}
-use Rattle.alg_groebner.specs.declared.basis.Member.{Member}
+use Rattle.alg_groebner.specs.declared.member.Member.{Member}
 use Rattle.alg_groebner.specs.declared.remainder.Remainder.{Remainder}
 
 pub same_some : {A : Type 0} (x y : A) → Some x ≡ Some y → x ≡ y

@@ -15,7 +15,9 @@ use Rattle.alg_mono.proofs.Canonical.{first}
 use Rattle.alg_mono.proofs.Norms.{norm-cons}
 use Rattle.alg_mono.proofs.Quotients.{divides_if_fits, fits_if_divides}
 use Rattle.alg_mono.specs.NumberedPolynomials.{Polynomial}
-use Rattle.alg_groebner.specs.Leads.{lead, leading, divides, reduces}
+use Rattle.alg_pairs.specs.Leads.{divides}
+use Rattle.alg_pairs.proofs.Dividing.{divides_says, same_answer}
+use Rattle.alg_groebner.specs.Leads.{lead, leading, reduces}
 
 first_of_list : {A : Type 0} (x y : A) (xs : List A) → slice_get (x ∷ xs) 0 ≡ Some y → x ≡ y
 first_of_list x y xs e = grind arith
@@ -43,47 +45,6 @@ lead_small (y ∷ p) x e h =
     (refl, h.polynomial.monomials.0)
 
 -- ---- which lead divides which
-fits_test : (d m : Monomial) → All (FitsIn m) d → divides d m ≡ true
-fits_test [] m h = refl
-fits_test (e ∷ d) m h = both (nat_le e.1 (exponent nat_cmp e.0 m)) (divides d m)
-    (le_test e.1 (exponent nat_cmp e.0 m) (All-head (FitsIn m) e d h)) (fits_test d m (All-tail (FitsIn m) e d h))
-  where
-    le_test : (a b : ℕ) → a ≤ b → nat_le a b ≡ true
-    le_test a b h = grind arith
-
-    both : (a b : Bool) → a ≡ true → b ≡ true → (a && b) ≡ true
-    both true b p q = q
-    both false b p q = p
-
-test_fits : (d m : Monomial) → divides d m ≡ true → All (FitsIn m) d
-test_fits [] m h = All-nil (FitsIn m)
-test_fits (e ∷ d) m h = All-cons (FitsIn m) e d (test_le e.1 (exponent nat_cmp e.0 m)
-    (front (nat_le e.1 (exponent nat_cmp e.0 m)) (divides d m) h))
-    (test_fits d m (back (nat_le e.1 (exponent nat_cmp e.0 m)) (divides d m) h))
-  where
-    test_le : (a b : ℕ) → nat_le a b ≡ true → a ≤ b
-    test_le a b h = grind arith
-
-    front : (a b : Bool) → (a && b) ≡ true → a ≡ true
-    front true b p = refl
-    front false b p = p
-
-    back : (a b : Bool) → (a && b) ≡ true → b ≡ true
-    back true b p = p
-    back false b p = absurd (let e : false ≡ true = p in grind arith)
-
--- the test of the definitions is division, for monomials
-pub divides_says : (d m : Monomial) → IsCanonical nat_cmp exponents d → (divides d m ≡ true) ↔ Divides nat_cmp d m
-divides_says d m c = (
-  λ t. divides_if_fits nat_cmp_total nat_cmp-IsAntisymmetric d m c (test_fits d m t),
-  λ h. fits_test d m (fits_if_divides nat_cmp_total nat_cmp-IsAntisymmetric d m c h),
-)
-
-same_answer : (r s : Bool) {P : Type 0} → (r ≡ true) ↔ P → (s ≡ true) ↔ P → r ≡ s
-same_answer true s f g = sym (g.1 (f.0 refl))
-same_answer false true f g = f.1 (g.0 refl)
-same_answer false false f g = refl
-
 pub reduces_is : (q p : Polynomial) (x y : Monomial × ℤ) (r : Bool) → slice_get q 0 ≡ Some x → slice_get p 0 ≡ Some y →
     IsPoly nat_cmp q → (r ≡ true) ↔ Divides nat_cmp x.0 y.0 → r ≡ reduces q p
 reduces_is [] p x y r e f h t = absurd (none_first x e)

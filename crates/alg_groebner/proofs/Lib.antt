@@ -1,6 +1,7 @@
 pub mod Divisors
 pub mod Leading
 pub mod Scans
+pub mod Indexed
 pub mod Cancelling
 pub mod Lifting
 pub mod Moves
@@ -24,3 +25,4 @@ pub mod Simulated
 pub mod Simulation
 pub mod Running
 pub mod Answered
+pub mod Begun

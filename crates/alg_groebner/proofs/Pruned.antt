@@ -12,7 +12,7 @@ use Rattle.alg_lines.specs.declared.cert.GoalStep.{GoalStep}
 use Rattle.alg_groebner.specs.Pruning.{mark, mark_steps, mark_line, mark_lines, marks_of, kept_lines, renumbered_line, renumbered_step, numbers_after, certificate_from}
 use Rattle.alg_groebner.specs.Runs.{powers, powers_outcome}
 use Rattle.alg_groebner.specs.declared.remainder.Remainder.{Remainder}
-use Rattle.alg_groebner.proofs.Scans.{turn}
+use Rattle.alg_pairs.proofs.Places.{turn}
 
 -- one line further back
 pub marked_turn : (given at : ℕ) (made : List Line) (x : Line) (marks new first : List Bool) → at < length made →

@@ -18,7 +18,7 @@ use Rattle.alg_groebner.specs.Cancelling.{lead_lcm}
 use Rattle.alg_groebner.specs.Choices.{pair_of, with_pair, with_pairs}
 use Rattle.alg_groebner.specs.Leads.{lead, coprime}
 use Rattle.alg_groebner.specs.Work.{member_cmp, with_ordered, with_member, with_members}
-use Rattle.alg_groebner.specs.declared.basis.Member.{Member}
+use Rattle.alg_groebner.specs.declared.member.Member.{Member}
 use Rattle.alg_groebner.specs.declared.queue.Queue.{Queue}
 use Rattle.alg_groebner.proofs.Adding.{is_less, not_less}
 use Rattle.alg_groebner.proofs.Shown.{numbers, IsLine, IsWithin, IsBeyond, AreOver}

@@ -15,7 +15,7 @@ use Rattle.alg_groebner.specs.Steps.{Steps, RunsAs, first_work}
 use Rattle.alg_groebner.specs.Work.{Work, member_at}
 use Rattle.alg_groebner.specs.Workable.{IsSomeMember, HasMembers, IsWorkable}
 use Rattle.alg_groebner.specs.Working.{WorkNext, GoesOn, Stops, work_next}
-use Rattle.alg_groebner.specs.declared.basis.Member.{Member}
+use Rattle.alg_groebner.specs.declared.member.Member.{Member}
 use Rattle.alg_groebner.specs.declared.machine.Ending.{Ending}
 use Rattle.alg_groebner.specs.declared.machine.Ending.TheVariants.{Proved, NoneUpTo, GaveUp}
 use Rattle.alg_groebner.specs.declared.remainder.Remainder.{Remainder}

@@ -15,7 +15,7 @@ use Rattle.alg_groebner.specs.Leads.{reduces}
 use Rattle.alg_groebner.specs.Sound.{IsNumber, IsIn}
 use Rattle.alg_groebner.specs.State.{State}
 use Rattle.alg_groebner.specs.Work.{Work, member_at, member_reducer, member_found, member_reducible}
-use Rattle.alg_groebner.specs.declared.basis.Member.{Member}
+use Rattle.alg_groebner.specs.declared.member.Member.{Member}
 use Rattle.alg_groebner.specs.declared.queue.Queue.{Queue}
 use Rattle.alg_groebner.specs.declared.remainder.Remainder.{Remainder}
 

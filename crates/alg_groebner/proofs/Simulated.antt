@@ -15,7 +15,7 @@ use Rattle.alg_groebner.specs.Sound.{IsThere, HasBoth, AreMembers, IsSound}
 use Rattle.alg_groebner.specs.State.{State, End, Next, Goes, Ends}
 use Rattle.alg_groebner.specs.Work.{Work, member_at, with_made, work_pair_taken}
 use Rattle.alg_groebner.specs.Working.{WorkNext, GoesOn, Stops, work_made, work_counted, by_members, work_by_pairs}
-use Rattle.alg_groebner.specs.declared.basis.Member.{Member}
+use Rattle.alg_groebner.specs.declared.member.Member.{Member}
 use Rattle.alg_groebner.specs.declared.cancel.Cancelled.{Cancelled}
 use Rattle.alg_groebner.specs.declared.queue.Queue.{Queue}
 use Rattle.alg_groebner.proofs.Adding.{is_less}

@@ -17,7 +17,7 @@ use Rattle.alg_groebner.specs.Sound.{AreMembers, IsSound}
 use Rattle.alg_groebner.specs.State.{State, Goes}
 use Rattle.alg_groebner.specs.Work.{Work, member_reducer, member_reducible, member_cmp, with_members, with_made, with_step, work_goal_reduced, work_line_reduced, work_joined, work_taken}
 use Rattle.alg_groebner.specs.Working.{work_by_pairs, work_by_inputs, work_by_reducible, work_by_reducer, work_by_line, work_by_current, work_by_power, work_next}
-use Rattle.alg_groebner.specs.declared.basis.Member.{Member}
+use Rattle.alg_groebner.specs.declared.member.Member.{Member}
 use Rattle.alg_groebner.specs.declared.remainder.Remainder.{Remainder}
 use Rattle.alg_groebner.proofs.Found.{found_holds, same_some, none_some}
 use Rattle.alg_groebner.proofs.Queued.{members_queued, numbers-insert}

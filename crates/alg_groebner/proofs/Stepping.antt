@@ -14,7 +14,7 @@ use Rattle.alg_groebner.specs.State.{End}
 use Rattle.alg_groebner.specs.Steps.{Steps}
 use Rattle.alg_groebner.specs.Work.{Work, member_at, member_reducer, member_reducible, with_made, with_step, with_current, work_goal_reduced, work_pair_taken}
 use Rattle.alg_groebner.specs.Working.{WorkNext, GoesOn, Stops, work_made, work_counted, by_members, work_by_reducer, work_by_line, work_by_reducible, work_by_current, work_by_power, work_next}
-use Rattle.alg_groebner.specs.declared.basis.Member.{Member}
+use Rattle.alg_groebner.specs.declared.member.Member.{Member}
 use Rattle.alg_groebner.specs.declared.cancel.Cancelled.{Cancelled}
 use Rattle.alg_groebner.specs.declared.machine.Ending.{Ending}
 use Rattle.alg_groebner.specs.declared.remainder.Remainder.{Remainder}

@@ -1,10 +1,11 @@
 -- Leads, and which line reduces a polynomial.
-use Rattle.std.specs.Prelude.{◌==◌, Bool, false, [], ◌∷◌, ℤ, pos, nat_le}
+use Rattle.std.specs.Prelude.{◌==◌, Bool, false, [], ◌∷◌, ℤ, pos}
 use Rattle.std.specs.List.{list_all}
 use Rattle.std.specs.Ordering.{nat_cmp}
 use Rattle.alg_mono.specs.Monomials.{exponent}
 use Rattle.alg_mono.specs.Mono.{Monomial}
 use Rattle.alg_mono.specs.NumberedPolynomials.{Polynomial}
+use Rattle.alg_pairs.specs.Leads.{divides}
 
 -- the greatest monomial, and 1 for zero
 abbrev pub lead : Polynomial → Monomial
@@ -15,10 +16,6 @@ lead (e ∷ p) = e.0
 abbrev pub leading : Polynomial → ℤ
 leading [] = pos 0
 leading (e ∷ p) = e.1
-
--- whether m is d times a monomial: no atom has a greater exponent in d
-abbrev pub divides : Monomial → Monomial → Bool
-divides d m = list_all (λ e. nat_le e.1 (exponent nat_cmp e.0 m)) d
 
 -- whether m and n have no common atom
 abbrev pub coprime : Monomial → Monomial → Bool

@@ -12,5 +12,6 @@ pub mod Laws
 pub mod Work
 pub mod Working
 pub mod Workable
+pub mod Bases
 pub mod Steps
 pub mod Verdicts

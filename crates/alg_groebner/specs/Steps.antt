@@ -20,7 +20,7 @@ abbrev pub work_of : Machine → Work
 work_of m = record {
   given = m.given;
   made = m.made.items;
-  basis = m.basis.items;
+  basis = m.basis;
   queue = m.queue;
   taken = m.taken;
   remainders = m.remainders.items;

@@ -16,7 +16,7 @@ use Rattle.alg_groebner.specs.Cancelling.{quotient, reduced, lead_lcm, left_lift
 use Rattle.alg_groebner.specs.Choices.{remainder_at}
 use Rattle.alg_groebner.specs.Moves.{stepped}
 use Rattle.alg_groebner.specs.declared.cancel.Cancelled.{Cancelled}
-use Rattle.alg_groebner.specs.declared.basis.Member.{Member}
+use Rattle.alg_groebner.specs.declared.member.Member.{Member}
 use Rattle.alg_groebner.specs.declared.queue.Queue.{Queue}
 use Rattle.alg_groebner.specs.declared.remainder.Remainder.{Remainder}
 

@@ -3,7 +3,7 @@ use Rattle.std.specs.Prelude.{◌≡◌, ◌≢◌, ℕ, ◌^◌, ◌<◌, ◌�
 use Rattle.alg_mono.specs.NumberedPolynomials.{Polynomial}
 use Rattle.alg_pairs.specs.declared.pair.Pair.{Pair}
 use Rattle.alg_groebner.specs.Work.{Work, member_at}
-use Rattle.alg_groebner.specs.declared.basis.Member.{Member}
+use Rattle.alg_groebner.specs.declared.member.Member.{Member}
 
 abbrev pub IsSomeMember : Member → Type 0
 IsSomeMember b = b.poly ≢ []

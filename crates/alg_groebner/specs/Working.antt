@@ -7,7 +7,7 @@ use Rattle.alg_groebner.specs.Cancelling.{reduce_outcome, s_outcome}
 use Rattle.alg_groebner.specs.Choices.{remainder_at, zero_power}
 use Rattle.alg_groebner.specs.State.{End}
 use Rattle.alg_groebner.specs.Work.{Work, member_at, member_reducer, member_reducible, work_goal_reduced, work_line_reduced, work_joined, work_taken, work_pair_taken}
-use Rattle.alg_groebner.specs.declared.basis.Member.{Member}
+use Rattle.alg_groebner.specs.declared.member.Member.{Member}
 
 -- what one step gives
 pub data WorkNext : Type 0 where

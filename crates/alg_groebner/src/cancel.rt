@@ -1,13 +1,15 @@
 //! Two polynomials without their leads.
 
-ghost use Rattle.std.specs.Prelude.{◌≡◌, ◌≢◌, [], true, IfOk, IfErr};
+ghost use Rattle.std.specs.Prelude.{◌≡◌, ◌≢◌, ◌≤ℤ◌, pos, [], true, IfOk, IfErr};
 ghost use Rattle.alg_mono.specs.Outcomes.{Outcome};
 ghost use Rattle.alg_mono.specs.Refusals.{Tells};
+ghost use Rattle.alg_poly.specs.Divisors.{IsDivisible, times_number};
+ghost use Rattle.alg_groebner.specs.Divisors.{content};
 ghost use Rattle.alg_groebner.specs.Leads.{reduces};
 ghost use Rattle.alg_groebner.specs.Cancelling.{cancelled, cancel_outcome, quotient, reduced, reduce_outcome, left_lift, right_lift, s_polynomial, s_outcome};
 
-use crate::factors;
 use crate::leads::{lead_of, leading_of};
+use crate::{NoMemory, factors};
 use alg_lines::combine;
 use alg_mono::{Mono, MonoEnd, Overrun};
 use alg_poly::Poly;
@@ -20,6 +22,27 @@ pub(crate) struct Cancelled {
     pub(crate) b: i128,
     pub(crate) d: i128,
     pub(crate) poly: Poly,
+}
+
+/// The content of `p`.
+fn content_of(p: &Poly) -> i128
+    ensures value { result ≡ pos (content p.now) }
+    ensures divides { IsDivisible result p.now }
+    ensures positive { pos 1 ≤ℤ result }
+{
+    let _ = p.terms();
+    p.content()
+}
+
+/// The polynomial that `d` times is `p`. Where `d` is 1, it is `p` itself.
+fn quotient_by(alloc: Global, p: Poly, d: i128) -> Result<Poly, NoMemory>
+    requires { IsDivisible d p }
+    ensures { IfOk result (λ r. times_number d r ≡ p) }
+{
+    if d <= 1 {
+        return Ok(p);
+    }
+    p.over_int(alloc, d)
 }
 
 /// Takes the leads of `m*p` and `n*q` away, and divides by the content.
@@ -41,8 +64,8 @@ pub(crate) fn cancel(
     let a = factors::left(u, v);
     let b = factors::right(u, v);
     let sum = combine(alloc, a, m, p, b, n, q)?;
-    let d = sum.content();
-    let poly = sum.over_int(alloc, d)?;
+    let d = content_of(&sum);
+    let poly = quotient_by(alloc, sum, d)?;
     Ok(Cancelled { a, b, d, poly })
 }
 

@@ -8,6 +8,7 @@ ghost use Rattle.alg_groebner.specs.Steps.{work_of, first_work, work_certificate
 ghost use Rattle.alg_groebner.specs.Verdicts.{Decides, IsWithinLimit};
 
 use crate::NoMemory;
+use crate::basis::Basis;
 use crate::machine::{Ending, Machine};
 use crate::pruning::prune;
 use crate::queue::Queue;
@@ -55,7 +56,7 @@ fn begin(alloc: Global, hyps: &[Poly], remainders: Vec<Remainder>) -> Machine
     Machine {
         given: hyps.len() as u32,
         made: Vec::new(alloc),
-        basis: Vec::new(alloc),
+        basis: Basis::new(alloc),
         queue: Queue {
             pairs: Pairs::new(alloc),
             beyond: false,

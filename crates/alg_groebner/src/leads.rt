@@ -6,7 +6,7 @@ ghost use Rattle.std.specs.Ordering.{nat_cmp};
 ghost use Rattle.alg_mono.specs.FiniteMaps.{IsCanonical};
 ghost use Rattle.alg_mono.specs.Numbers.{exponents};
 ghost use Rattle.alg_mono.specs.Polynomials.{MAX};
-ghost use Rattle.alg_groebner.specs.Leads.{lead, leading, coprime, reduces};
+ghost use Rattle.alg_groebner.specs.Leads.{lead, leading, coprime};
 
 use alg_mono::Mono;
 use alg_poly::Poly;
@@ -33,16 +33,6 @@ pub(crate) fn leading_of(p: &Poly) -> i128
     match p.terms().first() {
         Some(term) => term.1,
         None => unreachable!(),
-    }
-}
-
-/// Whether the lead of `q` divides that of `p`.
-pub(crate) fn reduces_it(q: &Poly, p: &Poly) -> bool
-    ensures { result ≡ reduces q.now p.now }
-{
-    match (q.terms().first(), p.terms().first()) {
-        (Some(divisor), Some(term)) => divisor.0.divides(&term.0),
-        _ => false,
     }
 }
 

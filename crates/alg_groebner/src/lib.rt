@@ -12,6 +12,7 @@ mod factors;
 pub mod laws;
 mod leads;
 mod machine;
+mod member;
 mod pruning;
 mod queue;
 mod remainder;

@@ -11,8 +11,9 @@ ghost use Rattle.alg_groebner.specs.Workable.{IsSomeMember, IsWorkable};
 ghost use Rattle.alg_groebner.specs.Steps.{work_of, Steps};
 
 use crate::NoMemory;
-use crate::basis::{Member, insert_member, member_of, reducer_of};
+use crate::basis::Basis;
 use crate::cancel::{Cancelled, reduce, s_polynomial};
+use crate::member::Member;
 use crate::queue::Queue;
 use crate::remainder::Remainder;
 use alg_lines::{GoalStep, Line};
@@ -35,7 +36,7 @@ pub(crate) enum Ending {
 pub(crate) struct Machine {
     pub(crate) given: u32,
     pub(crate) made: Vec<Line>,
-    pub(crate) basis: Vec<Member>,
+    pub(crate) basis: Basis,
     pub(crate) queue: Queue,
     pub(crate) taken: u32,
     pub(crate) remainders: Vec<Remainder>,
@@ -59,13 +60,13 @@ fn zero_power_of(remainders: &[Remainder]) -> Option<u32>
 }
 
 /// The first remainder that is reducible, by its place, and the first basis line that reduces it.
-fn reducible<'a>(basis: &'a [Member], remainders: &[Remainder]) -> Option<(usize, &'a Member)>
+fn reducible<'a>(basis: &'a Basis, remainders: &[Remainder]) -> Option<(usize, &'a Member)>
     ensures { option_map (λ x. (x.0, x.1.now)) result
         ≡ member_reducible basis.now 0 remainders.now }
 {
     let mut place = 0;
     for remainder in remainders {
-        if let Some(member) = reducer_of(basis, &remainder.rest) {
+        if let Some(member) = basis.reducer_of(&remainder.rest) {
             return Some((place, member));
         }
         place += 1;
@@ -112,12 +113,12 @@ impl Machine {
 
     /// Rule 5: the line joins the basis.
     fn join(&mut self, alloc: Global, line: Member) -> Result<(), NoMemory>
-        requires basis { All IsSomeMember self.old.basis.items }
+        requires basis { All IsSomeMember self.old.basis }
         requires new { line.poly ≢ [] }
         ensures { OnOk result (work_of self.new ≡ work_joined (work_of self.old) line) }
     {
-        self.queue.add_all(alloc, &self.basis, &line)?;
-        insert_member(&mut self.basis, line)?;
+        self.queue.add_all(alloc, self.basis.members(), &line)?;
+        self.basis.insert(alloc, line)?;
         self.current = None;
         Ok(())
     }
@@ -129,7 +130,7 @@ impl Machine {
         limit: u32,
         line: Member,
     ) -> Result<Option<Ending>, Overrun>
-        requires basis { All IsSomeMember self.old.basis.items }
+        requires basis { All IsSomeMember self.old.basis }
         requires lines { self.old.given + length self.old.made.items < 2 ^ 32 - 1 }
         requires limited { limit < 2 ^ 30 }
         requires taken { self.old.current ≡ None }
@@ -139,7 +140,7 @@ impl Machine {
         if line.poly.lead().is_none() {
             return Ok(None);
         }
-        let Some(member) = reducer_of(&self.basis, &line.poly) else {
+        let Some(member) = self.basis.reducer_of(&line.poly) else {
             self.join(alloc, line)?;
             return Ok(None);
         };
@@ -175,17 +176,16 @@ impl Machine {
         i: u32,
         j: u32,
     ) -> Result<Option<Ending>, Overrun>
-        requires first { IsSome (member_at self.old.basis.items i) }
-        requires second { IsSome (member_at self.old.basis.items j) }
-        requires basis { All IsSomeMember self.old.basis.items }
+        requires first { IsSome (member_at self.old.basis i) }
+        requires second { IsSome (member_at self.old.basis j) }
+        requires basis { All IsSomeMember self.old.basis }
         requires lines { self.old.given + length self.old.made.items < 2 ^ 32 - 1 }
         requires limited { limit < 2 ^ 30 }
         ensures { Steps (by_members limit (work_of self.old) self.old.queue.pairs
-            (member_at self.old.basis.items i) (member_at self.old.basis.items j)) result
+            (member_at self.old.basis i) (member_at self.old.basis j)) result
             (work_of self.old) (work_of self.new) }
     {
-        let (Some(first), Some(second)) = (member_of(&self.basis, i), member_of(&self.basis, j))
-        else {
+        let (Some(first), Some(second)) = (self.basis.member_of(i), self.basis.member_of(j)) else {
             unreachable!()
         };
         if self.count >= limit {

@@ -5,8 +5,8 @@ ghost use Rattle.alg_groebner.specs.Work.{with_ordered, with_member, with_member
 ghost use Rattle.alg_groebner.specs.Workable.{IsSomeMember};
 
 use crate::NoMemory;
-use crate::basis::Member;
 use crate::leads::{are_coprime, lead_of};
+use crate::member::Member;
 use alg_mono::MonoEnd;
 use alg_pairs::Pairs;
 use std::alloc::Global;

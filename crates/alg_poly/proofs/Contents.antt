@@ -7,7 +7,7 @@ use Rattle.std.specs.Int.RustNames.{unsigned_abs, int_div, int_rem}
 use Rattle.std.proofs.lemmas.Int.{ints, quot-rem, unsigned_abs-mul}
 use Rattle.std.proofs.lemmas.Nat.Gcd.{dvd_trans, dvd-zero, le_of_dvd, dvd_of_mod-eq-zero, mod-eq-zero_of_dvd}
 use Rattle.std.proofs.lemmas.List.{take_more}
-use Rattle.std.proofs.lemmas.List.Elements.{All-nil, All-head, All-tail, All-cons, All-push, All-weaker, All-get_or}
+use Rattle.std.proofs.lemmas.List.Elements.{All-nil, All-head, All-tail, All-cons, All-push, All-weaker, All-get_or, All-take}
 use Rattle.std.specs.Ordering.{nat_cmp, is_lt}
 use native.Mathlib.Nat.{mod-zero}
 use Rattle.std.specs.FinMap.Entries.{below_all, is_sorted}
@@ -52,6 +52,16 @@ content_more p i x g h k e c d =
           d.2 n (c.greatest n parts.0) parts.1;
     } in
     subst (λ q. IsContent q h) (sym more) content
+
+-- where the first terms have the content 1, so have all
+pub content_one : (p : Polynomial) (i : ℕ) → IsContent (take i p) 1 → IsContent p 1
+content_one p i c = record {
+  divides = λ k d l. one_divides (unsigned_abs (get_or p k d).1);
+  greatest = λ d h. c.greatest d (All-take (λ (e : Term). d ∣ unsigned_abs e.1) i p h);
+}
+  where
+    one_divides : (n : ℕ) → 1 ∣ n
+    one_divides n = dvd_of_mod-eq-zero 1 (omega arith)
 
 some_magnitude : (c : ℤ) → T (not (is_zero c)) → 0 < unsigned_abs c
 some_magnitude (pos n) h = let e : n ≡ 0 → ⊥ = λ p. subst (λ b. T (not b)) (ap (λ m. m == 0) p) h in omega arith

@@ -25,12 +25,16 @@ pub fn greatest_divisor(a: u128, b: u128) -> u128
     x
 }
 
-/// The greatest common divisor of the coefficients, and 0 where there is no term.
+/// The greatest common divisor of the coefficients, and 0 where there is no term. It looks at no
+/// term after those whose greatest common divisor is 1.
 fn content_of(terms: &[Term]) -> u128
     ensures { IsContent terms.now result }
 {
     let mut divisor = 0;
     for term in terms {
+        if divisor == 1 {
+            return 1;
+        }
         divisor = greatest_divisor(divisor, term.1.unsigned_abs());
     }
     divisor
@@ -57,8 +61,9 @@ fn quotients(alloc: Global, terms: &[Term], d: i128) -> Result<Vec<Term>, NoMemo
 }
 
 impl Poly {
-    /// The greatest positive number that divides each coefficient, and 1 for 0: one run of Euclid's
-    /// algorithm for each term. It takes no memory.
+    /// The greatest positive number that divides each coefficient, and 1 for 0: at most one run of
+    /// Euclid's algorithm for each term, and none after those whose divisor is 1. It takes no
+    /// memory.
     pub fn content(&self) -> i128
         ensures positive { pos 1 ≤ℤ result }
         ensures content { self.now ≢ [] → IsContent self.now (unsigned_abs result) }

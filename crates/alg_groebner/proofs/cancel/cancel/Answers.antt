@@ -1,12 +1,10 @@
 use Rattle.std.proofs.Common.{rules, sym, subst, ◌∙◌}
 use mir.Syntax.{w128}
 use mir.Val.{SFits}
-use Rattle.std.specs.Ordering.{nat_cmp}
 use Rattle.std.proofs.lemmas.Int.{to_z-of_z}
-use Rattle.alg_mono.specs.Polynomials.{IsPoly}
 use Rattle.alg_mono.specs.Refusals.{Tells}
 use Rattle.alg_groebner.specs.Cancelling.{cancel_outcome}
-use Rattle.alg_groebner.proofs.Cancelling.{content_number, outcome_is, cancelled_is}
+use Rattle.alg_groebner.proofs.Cancelling.{outcome_is, cancelled_is}
 use Rattle.alg_groebner.proofs.cancel.cancel.Goals as goal
 
 pub returns-in_err-sum-clause-refused : goal.returns-in_err-sum-clause-refused
@@ -25,12 +23,11 @@ returns-in_err-sum-clause-refused c =
     subst (Tells c.in_err-sum.field-0.0) is tells in
     search (rules, told)
 
-pub over_int-requires : goal.over_int-requires
-over_int-requires c =
-    let fits : SFits w128 c.content-d.result = search rules in
-    let sound = subst (IsPoly nat_cmp) c.sum.view_is c.sum.invariant in
-    let e = c.content-d.ensures in
-    simp to_z-of_z ((content_number c.in_ok-sum.sum c.content-d.result sound e.positive e.content e.zero).1)
+pub quotient_by-requires : goal.quotient_by-requires
+quotient_by-requires c =
+    let fits : SFits w128 c.content_of-d.result = search rules in
+    let divides = c.content_of-d.ensures.divides in
+    search (rules, divides)
 
 pub returns-clause-value : goal.returns-clause-value
 returns-clause-value c =
@@ -38,18 +35,16 @@ returns-clause-value c =
     let fits_v : SFits w128 c.leading_of-v.result = search rules in
     let fits_a : SFits w128 c.left-a.result = search rules in
     let fits_b : SFits w128 c.right-b.result = search rules in
-    let fits_d : SFits w128 c.content-d.result = search rules in
+    let fits_d : SFits w128 c.content_of-d.result = search rules in
     let a = simp to_z-of_z at c.left-a.ensures.value in
     let b = simp to_z-of_z at c.right-b.ensures.value in
     let made = simp to_z-of_z at c.in_ok-sum.ensures.combination in
     let exact = simp to_z-of_z at c.in_ok-poly.ensures in
-    let sound = subst (IsPoly nat_cmp) c.sum.view_is c.sum.invariant in
-    let e = c.content-d.ensures in
-    let number = content_number c.in_ok-sum.sum c.content-d.result sound e.positive e.content e.zero in
+    let e = c.content_of-d.ensures in
     simp to_z-of_z
     (cancelled_is c.args.m.now c.args.p.now c.args.n.now c.args.q.now c.leading_of-u.result c.leading_of-v.result
     c.left-a.result c.right-b.result c.leading_of-u.ensures.value c.leading_of-v.ensures.value a b c.in_ok-sum.sum
-    c.in_ok-poly.poly c.content-d.result made number.0 e.positive exact)
+    c.in_ok-poly.poly c.content_of-d.result made e.value e.positive exact)
 
 pub returns-clause-fine : goal.returns-clause-fine
 returns-clause-fine c =

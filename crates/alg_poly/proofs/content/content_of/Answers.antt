@@ -1,9 +1,10 @@
 use Rattle.std.specs.Prelude.{◌≡◌, unsigned_abs}
-use Rattle.std.proofs.Common.{rules, arith, subst}
+use Rattle.std.proofs.Common.{rules, arith, subst, take}
 use Rattle.std.specs.Int.{IsGcd}
 use mir.Syntax.{w128}
 use mir.Val.{SFits}
-use Rattle.alg_poly.proofs.Contents.{content_more}
+use Rattle.alg_poly.specs.Divisors.{IsContent}
+use Rattle.alg_poly.proofs.Contents.{content_more, content_one}
 use Rattle.alg_poly.proofs.content.content_of.Goals as goal
 
 pub loop-term-preserved : goal.loop-term-preserved
@@ -15,3 +16,8 @@ loop-term-preserved c =
     c.greatest_divisor-divisor.ensures in
     content_more c.args.terms.now c.loop-term.term-index x c.loop-term.divisor c.greatest_divisor-divisor.result
     (omega arith) c.term-item.is c.loop-term.invariant divisor
+
+pub returns-then-divisor-eq1 : goal.returns-then-divisor-eq1
+returns-then-divisor-eq1 c =
+    content_one c.args.terms.now c.loop-term.term-index
+    (subst (IsContent (take c.loop-term.term-index c.args.terms.now)) c.if-divisor-eq1.true c.loop-term.invariant)

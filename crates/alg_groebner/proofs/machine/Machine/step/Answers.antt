@@ -4,7 +4,7 @@ use Rattle.alg_groebner.specs.Choices.{zero_power}
 use Rattle.alg_groebner.specs.Steps.{Steps, work_of}
 use Rattle.alg_groebner.specs.Work.{with_current}
 use Rattle.alg_groebner.specs.Working.{work_by_line}
-use Rattle.alg_groebner.specs.declared.basis.Member.{Member}
+use Rattle.alg_groebner.specs.declared.member.Member.{Member}
 use Rattle.alg_groebner.specs.declared.remainder.Remainder.{Remainder}
 use Rattle.alg_groebner.proofs.Stepping.{line_steps}
 use Rattle.alg_groebner.proofs.machine.Machine.step.Goals as goal

@@ -1,6 +1,0 @@
-use Rattle.std.proofs.Common.{◌≡◌, drop}
-use Rattle.alg_groebner.specs.Work.{member_at}
-use Rattle.alg_groebner.proofs.basis.member_of.Given as goal
-
-abbrev pub invariant-loop-member : goal.invariant-loop-member
-invariant-loop-member l = member_at (drop l.member-index l.basis) l.number ≡ member_at l.basis l.number

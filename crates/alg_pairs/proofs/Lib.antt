@@ -1,0 +1,4 @@
+pub mod Lesser
+pub mod Places
+pub mod Dividing
+pub mod Filed
