@@ -7,6 +7,8 @@
 mod certificate;
 mod combined;
 mod given;
+#[cfg(test)]
+mod tests;
 
 pub use alg_lines::{Cert, GoalStep, Line};
 pub use alg_poly::{Overrun, Poly};
