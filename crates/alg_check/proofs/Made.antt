@@ -32,7 +32,7 @@ module _ (lines : List Polynomial) (l : Line) (first : IsOneOf lines l.i) (secon
   as_line : (o : Option Polynomial) →
       IsQuotient (combine_outcome l.a l.m (line_at lines l.i) l.b l.n (line_at lines l.j)) (line_combination lines l) l.d o →
       IsNextLine lines l o
-  as_line (Some new) h = (record { first = first; second = second; fine = h.0; exact = h.1 }, h.2)
+  as_line (Some new) h = (record { first = first; second = second; fine = h.0; exact = h.1 }, (h.2, h.3))
   as_line None h = λ g. h g.fine g.exact
 
   pub next_line_is : (p q : Polynomial) → p ≡ line_at lines l.i → q ≡ line_at lines l.j → (o : Option Polynomial) →
@@ -48,7 +48,7 @@ module _ (lines : List Polynomial) (before : Polynomial) (s : GoalStep) (line : 
   as_remainder : (o : Option Polynomial) →
       IsQuotient (combine_outcome s.a [] before s.b s.n (line_at lines s.j)) (step_combination lines s before) s.d o →
       IsNextRemainder lines before s o
-  as_remainder (Some after) h = (record { line = line; factor = factor; fine = h.0; exact = h.1 }, h.2)
+  as_remainder (Some after) h = (record { line = line; factor = factor; fine = h.0; exact = h.1 }, (h.2, h.3))
   as_remainder None h = λ g. h g.fine g.exact
 
   pub next_remainder_is : (one : Monomial) (q : Polynomial) → one ≡ [] → q ≡ line_at lines s.j →

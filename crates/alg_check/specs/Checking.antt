@@ -3,6 +3,9 @@ use Rattle.std.specs.Prelude.{◌≡◌, ◌≢◌, ℕ, ℤ, ◌+◌, List, [],
 use Rattle.alg_mono.specs.Outcomes.{Outcome}
 use Rattle.alg_mono.specs.Refusals.{Tells}
 use Rattle.alg_mono.specs.declared.ends.Overrun.{Overrun}
+use Rattle.std.specs.Ordering.{nat_cmp}
+use Rattle.alg_mono.specs.Numbers.{integers}
+use Rattle.alg_mono.specs.Polynomials.{IsPolynomial}
 use Rattle.alg_mono.specs.NumberedPolynomials.{Polynomial, multiple_of}
 use Rattle.alg_poly.specs.Divisors.{IsDivisible}
 use Rattle.alg_lines.specs.declared.cert.Line.{Line}
@@ -36,7 +39,8 @@ Makes outcome sum (Err e) = Tells e outcome
 
 -- the polynomial that d times is the sum, or none where making the sum breaks a rule or d does not divide it
 abbrev pub IsQuotient : Outcome → Polynomial → ℤ → Option Polynomial → Type 0
-IsQuotient outcome sum d (Some q) = (outcome ≡ Outcome.Fine) × IsDivisible d sum × (multiple_of d [] q ≡ sum)
+IsQuotient outcome sum d (Some q) =
+    (outcome ≡ Outcome.Fine) × IsDivisible d sum × IsPolynomial nat_cmp integers q × (multiple_of d [] q ≡ sum)
 IsQuotient outcome sum d None = outcome ≡ Outcome.Fine → IsDivisible d sum → ⊥
 
 -- the polynomial that a good line makes, or none where the line is not good

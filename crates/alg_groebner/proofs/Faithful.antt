@@ -43,7 +43,7 @@ one_longer lines p k h = let high = h.1 in let longer = length-append lines (p �
 step_longer : (lines : List Polynomial) (p : Polynomial) (s : GoalStep) (before after : Polynomial) →
     IsGoodStep lines s before × IsStepOf lines s before after →
     IsGoodStep (lines ++ p ∷ []) s before × IsStepOf (lines ++ p ∷ []) s before after
-step_longer lines p s before after (g, made) =
+step_longer lines p s before after (g, (polynomial, made)) =
     let at = sym (at_longer lines p s.j g.line) in (
       record {
         line = one_longer lines p s.j g.line;
@@ -51,7 +51,7 @@ step_longer lines p s before after (g, made) =
         fine = subst (λ (q : Polynomial). combine_outcome s.a [] before s.b s.n q ≡ Outcome.Fine) at g.fine;
         exact = subst (λ (q : Polynomial). IsDivisible s.d (combination s.a [] before s.b s.n q)) at g.exact;
       },
-      subst (λ (q : Polynomial). multiple_of s.d [] after ≡ combination s.a [] before s.b s.n q) at made,
+      (polynomial, subst (λ (q : Polynomial). multiple_of s.d [] after ≡ combination s.a [] before s.b s.n q) at made),
     )
 
 pub steps_longer : (lines : List Polynomial) (p g : Polynomial) (ss : List GoalStep) (h : Polynomial) → AreSteps lines
@@ -78,7 +78,7 @@ module _ (lines : List Polynomial) (m : Monomial) (i : ℕ) (n : Monomial) (j : 
           fine = fine;
           exact = (content_positive x sound, (content_divides x sound).1);
         },
-        exactly x sound,
+        (IsPolynomial-over x sound, exactly x sound),
       )
 
 -- ---- combinations are polynomials, whatever they are made of
@@ -138,7 +138,7 @@ module _ (lines : List Polynomial) (before : Polynomial) (n : Monomial) (j : ℕ
           fine = fine;
           exact = (content_positive x sound, (content_divides x sound).1);
         },
-        exactly x sound,
+        (IsPolynomial-over x sound, exactly x sound),
       )
     where
       at_least_one : (v e : ℕ) → 0 < e → e ∣ v → 0 < v → pos 1 ≤ℤ pos (v / e)

@@ -32,5 +32,6 @@ returns c =
     let times = simp to_z-of_z at c.in_ok-quotient.ensures in (
       made.1,
       subst (IsDivisible c.args.d) made.0 divides,
+      c.terms.ensures.sound.polynomial,
       multiple_is_times c.args.d c.in_ok-quotient.quotient some c.terms.ensures.sound.polynomial ∙ times ∙ made.0,
     )
