@@ -11,12 +11,11 @@ use Rattle.std.proofs.lemmas.List.Elements.{All-head, All-tail}
 use Rattle.alg_mono.specs.FiniteMaps.{Each, IsCanonical}
 use Rattle.alg_mono.specs.Numbers.{exponents, integers}
 use Rattle.alg_mono.specs.Polynomials.{IsPolynomial}
-use Rattle.alg_mono.proofs.Monomials.{one_mono_times}
 use Rattle.alg_poly.specs.Divisors.{DividesEach, times_number}
 use Rattle.alg_mono.specs.Mono.{Monomial}
 use Rattle.alg_mono.specs.NumberedPolynomials.{Polynomial, row_of, multiple_of}
 use Rattle.alg_poly.proofs.Contents.{exact_quotient, IsPolynomial-from_times}
-use Rattle.alg_poly.proofs.Zeros.{multiple_is_row}
+use Rattle.alg_poly.proofs.Zeros.{multiple_is_times}
 use Rattle.alg_groebner.specs.Divisors.{content, over_number}
 use Rattle.alg_groebner.proofs.Divisors.{content_divides}
 
@@ -26,12 +25,6 @@ times_over d [] h = refl
 times_over d (e ∷ p) h =
     let P = λ (y : Monomial × ℤ). d ∣ unsigned_abs y.1 in
     λ i. (e.0, exact_quotient e.1 (pos d) (All-head P e p h) i) ∷ times_over d p (All-tail P e p h) i
-
-row_is_times : (c : ℤ) (p : Polynomial) → Each (λ m. IsCanonical nat_cmp exponents m) p → row_of [] c p ≡ times_number
-    c p
-row_is_times c [] h = refl
-row_is_times c (e ∷ p) h =
-    λ i. (one_mono_times nat_cmp_total nat_cmp-IsAntisymmetric e.0 h.0 i, c *ℤ e.1) ∷ row_is_times c p h.1 i
 
 pub content_positive : (p : Polynomial) → IsPolynomial nat_cmp integers p → pos 1 ≤ℤ pos (content p)
 content_positive p s = let h = (content_divides p s).0 in omega (arith, ints)
@@ -47,8 +40,7 @@ exactly p s =
     let sound = IsPolynomial-from_times (pos d) (over_number (pos d) p)
     (subst (IsPolynomial nat_cmp integers) (sym times) s) in
     let some : pos d ≢ pos 0 = λ e. let n : d ≡ 0 = ap unsigned_abs e in omega arith in
-    multiple_is_row (pos d) [] (over_number (pos d) p) some sound
-    ∙ row_is_times (pos d) (over_number (pos d) p) sound.monomials ∙ times
+    multiple_is_times (pos d) (over_number (pos d) p) some sound ∙ times
 
 -- the quotients are a polynomial
 pub IsPolynomial-over : (p : Polynomial) → IsPolynomial nat_cmp integers p →

@@ -23,7 +23,7 @@ use Rattle.alg_mono.specs.Polynomials.{IsPolynomial, poly_neg}
 use Rattle.alg_mono.specs.Mono.{Monomial}
 use Rattle.alg_mono.specs.NumberedPolynomials.{Polynomial, before, term_of, multiple_of}
 use Rattle.alg_lines.specs.Lines.{line_at, combination, IsLineOf, IsStepOf}
-use Rattle.alg_lines.specs.Accepting.{IsOneOf, IsGoodLine, IsGoodStep, AreLines, AreSteps}
+use Rattle.alg_lines.specs.Accepting.{IsOneOf, IsGoodLine, IsGoodStep, AreSteps}
 use Rattle.alg_lines.specs.declared.cert.Line.{Line}
 use Rattle.alg_lines.specs.declared.cert.GoalStep.{GoalStep}
 use Rattle.alg_groebner.specs.Leads.{leading}
@@ -31,24 +31,6 @@ use Rattle.alg_groebner.specs.Divisors.{common}
 use Rattle.alg_groebner.specs.Cancelling.{left_factor, right_factor, crossed, cancelled, cancel_outcome}
 use Rattle.alg_groebner.proofs.Exact.{exactly, content_positive, IsPolynomial-over}
 use Rattle.alg_groebner.proofs.Divisors.{common_divides, content_divides, some_size}
-
--- ---- one more line, one more step
-pub lines_more : (lines : List Polynomial) (ls : List Line) (all : List Polynomial) (l : Line) (new : Polynomial) →
-    AreLines lines ls all → IsGoodLine all l × IsLineOf all l new → AreLines lines (ls ++ l ∷ []) (all ++ new ∷ [])
-lines_more lines [] all l new h g = (
-  new,
-  subst (λ (xs : List Polynomial). IsGoodLine xs l × IsLineOf xs l new) h g,
-  ap
-      (λ (xs : List Polynomial). xs ++ new ∷ []) h,
-)
-lines_more lines (k ∷ ls) all l new h g = (h.0, h.1, lines_more (lines ++ h.0 ∷ []) ls all l new h.2 g)
-
-pub steps_more : (lines : List Polynomial) (g : Polynomial) (ss : List GoalStep) (h : Polynomial) (s : GoalStep)
-    (after : Polynomial) →
-    AreSteps lines g ss h → IsGoodStep lines s h × IsStepOf lines s h after → AreSteps lines g (ss ++ s ∷ []) after
-steps_more lines g [] h s after a b =
-    (after, subst (λ (x : Polynomial). IsGoodStep lines s x × IsStepOf lines s x after) a b, refl)
-steps_more lines g (t ∷ ss) h s after a b = (a.0, a.1, steps_more lines a.0 ss h s after a.2 b)
 
 -- a longer list of lines keeps the steps
 at_longer : (lines : List Polynomial) (p : Polynomial) (k : ℕ) → IsOneOf lines k → line_at (lines ++ p ∷ []) k ≡
@@ -61,7 +43,7 @@ one_longer lines p k h = let high = h.1 in let longer = length-append lines (p �
 step_longer : (lines : List Polynomial) (p : Polynomial) (s : GoalStep) (before after : Polynomial) →
     IsGoodStep lines s before × IsStepOf lines s before after →
     IsGoodStep (lines ++ p ∷ []) s before × IsStepOf (lines ++ p ∷ []) s before after
-step_longer lines p s before after (g, made) =
+step_longer lines p s before after (g, (polynomial, made)) =
     let at = sym (at_longer lines p s.j g.line) in (
       record {
         line = one_longer lines p s.j g.line;
@@ -69,7 +51,7 @@ step_longer lines p s before after (g, made) =
         fine = subst (λ (q : Polynomial). combine_outcome s.a [] before s.b s.n q ≡ Outcome.Fine) at g.fine;
         exact = subst (λ (q : Polynomial). IsDivisible s.d (combination s.a [] before s.b s.n q)) at g.exact;
       },
-      subst (λ (q : Polynomial). multiple_of s.d [] after ≡ combination s.a [] before s.b s.n q) at made,
+      (polynomial, subst (λ (q : Polynomial). multiple_of s.d [] after ≡ combination s.a [] before s.b s.n q) at made),
     )
 
 pub steps_longer : (lines : List Polynomial) (p g : Polynomial) (ss : List GoalStep) (h : Polynomial) → AreSteps lines
@@ -96,7 +78,7 @@ module _ (lines : List Polynomial) (m : Monomial) (i : ℕ) (n : Monomial) (j : 
           fine = fine;
           exact = (content_positive x sound, (content_divides x sound).1);
         },
-        exactly x sound,
+        (IsPolynomial-over x sound, exactly x sound),
       )
 
 -- ---- combinations are polynomials, whatever they are made of
@@ -156,7 +138,7 @@ module _ (lines : List Polynomial) (before : Polynomial) (n : Monomial) (j : ℕ
           fine = fine;
           exact = (content_positive x sound, (content_divides x sound).1);
         },
-        exactly x sound,
+        (IsPolynomial-over x sound, exactly x sound),
       )
     where
       at_least_one : (v e : ℕ) → 0 < e → e ∣ v → 0 < v → pos 1 ≤ℤ pos (v / e)

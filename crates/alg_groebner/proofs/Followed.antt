@@ -23,7 +23,8 @@ use Rattle.alg_groebner.specs.Machine.{made, counted, by_pairs, by_inputs, by_re
 use Rattle.alg_groebner.specs.Sound.{HasBoth, IsNumber, IsSound}
 use Rattle.alg_groebner.specs.declared.remainder.Remainder.{Remainder}
 use Rattle.alg_groebner.proofs.Chosen.{reducer_says, reducible_says}
-use Rattle.alg_groebner.proofs.Faithful.{lines_more, steps_more, steps_longer, good_line, good_step, IsPolynomial-crossed, IsPolynomial-cancelled}
+use Rattle.alg_lines.proofs.Following.{lines_more, steps_more}
+use Rattle.alg_groebner.proofs.Faithful.{steps_longer, good_line, good_step, IsPolynomial-crossed, IsPolynomial-cancelled}
 use Rattle.alg_groebner.proofs.Leading.{reduces_says}
 use Rattle.alg_groebner.proofs.Scans.{there_number}
 

@@ -94,7 +94,7 @@ good_kept : (bs : List Bool) (lines : List Polynomial) (l : Line) (new : Polynom
     IsGoodLine lines l × IsLineOf lines l new → IsMarked bs l.i → IsMarked bs l.j →
     let k = renumbered_line (numbers_after 0 bs) l in
     IsGoodLine (keep bs lines) k × IsLineOf (keep bs lines) k new
-good_kept bs lines l new (g, made) a b =
+good_kept bs lines l new (g, (polynomial, made)) a b =
     let i = renumber bs lines l.i g.first a in
     let j = renumber bs lines l.j g.second b in
     let same : combination l.a l.m (line_at lines l.i) l.b l.n (line_at lines l.j)
@@ -106,7 +106,7 @@ good_kept bs lines l new (g, made) a b =
         fine = (λ k. combine_outcome l.a l.m (i.1 k) l.b l.n (j.1 k)) ∙ g.fine;
         exact = subst (IsDivisible l.d) same g.exact;
       },
-      made ∙ same,
+      (polynomial, made ∙ same),
     )
 
 pub lines_kept : (bs : List Bool) (lines : List Polynomial) (p : ℕ) (ls : List Line) (all : List Polynomial) → p ≡
@@ -159,7 +159,7 @@ steps_kept bs all g (s ∷ ss) h a c =
           fine = ap (λ (q : Polynomial). combine_outcome s.a [] g s.b s.n q) j.1 ∙ good.fine;
           exact = subst (IsDivisible s.d) same good.exact;
         },
-        a.1.1 ∙ same,
+        (a.1.1.0, a.1.1.1 ∙ same),
       ),
       steps_kept bs all a.0 ss h a.2 c.1,
     )

@@ -1,14 +1,18 @@
--- Products with zero, and with one term.
-use Rattle.std.specs.Prelude.{◌≡◌, ◌≢◌, true, false, cond, not, [], ◌∷◌, ℤ, pos}
+-- Products with zero, with one term, and with a number.
+use Rattle.std.specs.Prelude.{◌≡◌, ◌≢◌, true, false, cond, not, [], ◌∷◌, ℤ, pos, ◌*ℤ◌}
 use Rattle.std.proofs.Common.{refl, ap, ◌∙◌, T}
 use Rattle.std.specs.Ordering.{nat_cmp}
-use Rattle.alg_mono.specs.FiniteMaps.{collect, products}
+use Rattle.std.specs.Cmp.{nat_cmp_total}
+use Rattle.std.specs.FinMap.{nat_cmp-IsAntisymmetric}
+use Rattle.alg_mono.specs.FiniteMaps.{Each, IsCanonical, collect, products}
 use Rattle.alg_mono.specs.Monomials.{mono_times}
-use Rattle.alg_mono.specs.Numbers.{integers, is_zero}
+use Rattle.alg_mono.specs.Numbers.{exponents, integers, is_zero}
 use Rattle.alg_mono.specs.Polynomials.{IsPolynomial}
 use Rattle.alg_mono.specs.Mono.{Monomial}
 use Rattle.alg_mono.specs.NumberedPolynomials.{Polynomial, before, term_of, row_of, product_of, multiple_of}
+use Rattle.alg_mono.proofs.Monomials.{one_mono_times}
 use Rattle.alg_mono.proofs.Rows.{product_of_term, some_number}
+use Rattle.alg_poly.specs.Divisors.{times_number}
 
 products_with_zero : (p : Polynomial) → products (mono_times nat_cmp) integers.mul p [] ≡ []
 products_with_zero [] = refl
@@ -38,3 +42,14 @@ pub multiple_is_row : (c : ℤ) (m : Monomial) (p : Polynomial) → c ≢ pos 0 
 multiple_is_row c m p h s =
     let some = some_number c h in
     ap (λ (t : Polynomial). product_of t p) (term_some m c some) ∙ product_of_term m c some p s
+
+row_is_times : (c : ℤ) (p : Polynomial) → Each (λ m. IsCanonical nat_cmp exponents m) p →
+    row_of [] c p ≡ times_number c p
+row_is_times c [] h = refl
+row_is_times c (e ∷ p) h =
+    λ i. (one_mono_times nat_cmp_total nat_cmp-IsAntisymmetric e.0 h.0 i, c *ℤ e.1) ∷ row_is_times c p h.1 i
+
+-- a number times a polynomial, coefficient by coefficient
+pub multiple_is_times : (c : ℤ) (p : Polynomial) → c ≢ pos 0 → IsPolynomial nat_cmp integers p →
+    multiple_of c [] p ≡ times_number c p
+multiple_is_times c p some s = multiple_is_row c [] p some s ∙ row_is_times c p s.monomials

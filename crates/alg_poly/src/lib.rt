@@ -5,7 +5,8 @@
 //! sum of the magnitudes of its coefficients, is at most 2^127 - 1, and its degree at most 1,000.
 //! Norms and degrees are bounded before anything is made: `Range` is the answer where the bound on
 //! the norm is too great, else `Degree` where that on the degree is.
-//! The words of the contracts are in `specs/Poly.antt`, over those of `alg_mono`.
+//! The words of the contracts are those of `alg_mono`, in its `specs/NumberedPolynomials.antt`, and
+//! those on divisors in `specs/Divisors.antt`.
 #![tactic(auto)]
 
 mod content;

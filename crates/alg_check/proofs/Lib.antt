@@ -1,0 +1,3 @@
+pub mod Factors
+pub mod Following
+pub mod Made
