@@ -1,7 +1,10 @@
 #!/bin/sh
-# Runs the program on its words and its standard input. Where the program is missing or older than
-# its sources it is proved and built first, which takes some minutes and is told on standard error.
-top=$(cd "$(dirname "$0")" && pwd) || exit 1
+# Runs the program on its words and its standard input, and ends with its status.
+#
+# The built program runs where it is not older than its sources. Else its sources are run before
+# their proof, which is told on standard error; `./build` proves and builds them. Statuses of the
+# script's own: 7 where the sources could not be run to an end, 127 where `rt` is missing.
+top=$(cd "$(dirname "$0")" && pwd) || exit 7
 crate=$top/crates/alg_cli
 program=$crate/out/alg_cli
 
@@ -10,18 +13,21 @@ newer_sources() {
         -type f -newer "$program" 2>/dev/null | head -n 1
 }
 
-if [ ! -x "$program" ] || [ -n "$(newer_sources)" ]; then
-    echo "alg: proving and building the program, some minutes the first time" >&2
-    start=$(date +%s)
-    log=$(mktemp) || exit 1
-    if ! (cd "$crate" && rt run -- prove < stdin) > "$log" 2>&1; then
-        cat "$log" >&2
-        rm -f "$log"
-        echo "alg: the program could not be built" >&2
-        exit 1
-    fi
-    rm -f "$log"
-    touch "$program"
-    echo "alg: built in $(($(date +%s) - start)) seconds" >&2
+if [ -x "$program" ] && [ -z "$(newer_sources)" ]; then
+    exec "$program" "$@"
 fi
-exec "$program" "$@"
+if ! command -v rt > /dev/null; then
+    echo "alg: not built yet, and the Rattle kit's command rt is not on the path" >&2
+    exit 127
+fi
+echo "alg: running the sources before their proof, about half a minute; ./build proves and builds them" >&2
+log=$(mktemp) || exit 7
+trap 'rm -f "$log"' EXIT
+(cd "$crate" && rt try -- "$@") 2> "$log"
+status=$(sed -n 's/^run=ended status=\([0-9]*\) .*/\1/p' "$log")
+if [ -z "$status" ]; then
+    cat "$log" >&2
+    echo "alg: no answer; ./build makes the program, which is faster and has more room" >&2
+    exit 7
+fi
+exit "$status"
