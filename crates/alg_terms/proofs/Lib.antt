@@ -5,3 +5,4 @@ pub mod SmallFile
 pub mod SmallNames
 pub mod Splits
 pub mod Typed
+pub mod Views

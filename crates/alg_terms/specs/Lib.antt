@@ -2,6 +2,7 @@ pub mod Limits
 pub mod AnswerRules
 pub mod GoalRules
 pub mod Kinds
+pub mod Lists
 pub mod Members
 pub mod Names
 pub mod Nodes
