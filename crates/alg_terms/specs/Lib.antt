@@ -1,6 +1,7 @@
 pub mod Limits
 pub mod AnswerRules
 pub mod GoalRules
+pub mod Ascii
 pub mod Kinds
 pub mod Lists
 pub mod Members
