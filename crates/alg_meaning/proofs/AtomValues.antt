@@ -1,5 +1,6 @@
 -- The values of atoms and of polynomials over them, in the carrier of a sort.
--- An atom that is not of the sort has the value zero there. So each lemma holds of all polynomials, and none asks of which sort their atoms are.
+-- An atom that is not of the sort has the value zero there. So each lemma holds of all polynomials, and none asks of
+-- which sort their atoms are.
 use Rattle.std.specs.Prelude.{◌≡◌, ◌<◌, ℕ, List, [], ◌∷◌, length, slice_index_or, pos}
 use Rattle.std.proofs.Common.{refl, subst, ◌∙◌}
 use native.Mathlib.Decide.{ℕ_discrete, dec_lt}

@@ -8,7 +8,8 @@ use Rattle.alg_terms.specs.declared.term.Term.{Term}
 use Rattle.alg_terms.specs.Members.{sort_at}
 use Rattle.alg_meaning.specs.Conditions.{is_dropped, conditions_of}
 use Rattle.alg_meaning.specs.ConditionWords.{denominators_of, ConditionsSay}
-use Rattle.alg_meaning.specs.Trees.{same_tree, each_once}
+use Rattle.alg_terms.specs.Lists.{each_once}
+use Rattle.alg_meaning.specs.Trees.{same_tree}
 use Rattle.alg_meaning.proofs.FieldLaws.{each_denominator}
 use Rattle.alg_meaning.proofs.SameTrees.{EachTerm, same_tree_itself}
 
@@ -24,22 +25,22 @@ passes p (t ∷ ts) =
 all_to : {P Q : Term → Type 0} (to : (t : Term) → P t → Q t) (ts : List Term) → All P ts → All Q ts
 all_to {P} {Q} to ts h = λ i d in_range. to _ (h i d in_range)
 
-all_once : (P : Term → Type 0) (ts : List Term) → All P ts → All P (each_once ts)
+all_once : (P : Term → Type 0) (ts : List Term) → All P ts → All P (each_once same_tree ts)
 all_once P [] h = h
 all_once P (t ∷ ts) h =
-    All-cons P t (filter (λ u. not (same_tree t u)) (each_once ts)) (All-head P t ts h)
-    (All-filter (λ u. not (same_tree t u)) P (each_once ts) (all_once P ts (All-tail P t ts h)))
+    All-cons P t (filter (λ u. not (same_tree t u)) (each_once same_tree ts)) (All-head P t ts h)
+    (All-filter (λ u. not (same_tree t u)) P (each_once same_tree ts) (all_once P ts (All-tail P t ts h)))
 
 apart : (t u : Term) → not (same_tree t u) ≡ true → t ≢ u
 apart t u h e = true≢false (sym h ∙ ap not (ap (same_tree t) (sym e) ∙ same_tree_itself t))
 
-once : (ts : List Term) → AllPairs (λ t later. t ≢ later) (each_once ts)
+once : (ts : List Term) → AllPairs (λ t later. t ≢ later) (each_once same_tree ts)
 once [] = λ i j d lt in_range. absurd (omega (arith, in_range))
 once (t ∷ ts) =
-    let rest = filter (λ u. not (same_tree t u)) (each_once ts) in
+    let rest = filter (λ u. not (same_tree t u)) (each_once same_tree ts) in
     AllPairs-cons (λ t later. t ≢ later) t rest
-    (all_to (apart t) rest (passes (λ u. not (same_tree t u)) (each_once ts)))
-    (AllPairs-filter (λ t later. t ≢ later) (λ u. not (same_tree t u)) (each_once ts) (once ts))
+    (all_to (apart t) rest (passes (λ u. not (same_tree t u)) (each_once same_tree ts)))
+    (AllPairs-filter (λ t later. t ≢ later) (λ u. not (same_tree t u)) (each_once same_tree ts) (once ts))
 
 as_all : (Q : Term → Type 0) (ts : List Term) → EachTerm Q ts → All Q ts
 as_all Q [] h = All-nil Q
@@ -56,11 +57,11 @@ conditions_say file e =
     let conditions = conditions_of file e in
     record {
       only =
-          All-filter (λ t. not (drop t)) (Contains ts) (each_once ts)
+          All-filter (λ t. not (drop t)) (Contains ts) (each_once same_tree ts)
           (all_once (Contains ts) ts (All-contains_itself ts));
-      kept = all_to (λ t. not_true (drop t)) conditions (passes (λ t. not (drop t)) (each_once ts));
+      kept = all_to (λ t. not_true (drop t)) conditions (passes (λ t. not (drop t)) (each_once same_tree ts));
       all =
           as_all (λ t. (drop t ≡ true) ⊎ Contains conditions t) ts
           (each_denominator drop (Contains conditions) ts (All-contains_itself conditions));
-      once = AllPairs-filter (λ t later. t ≢ later) (λ t. not (drop t)) (each_once ts) (once ts);
+      once = AllPairs-filter (λ t later. t ≢ later) (λ t. not (drop t)) (each_once same_tree ts) (once ts);
     }

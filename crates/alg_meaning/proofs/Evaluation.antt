@@ -131,7 +131,8 @@ module _ {M B : Type 0} (R : Semiring B) (opp : B → B) (G : IsRing R.none R.on
       (λ k. R.plus ((ap (λ x. R.times x (v e.0)) (iv-neg G e.1) ∙ opp_times G (i e.1) (v e.0)) k) (poly_value-neg p k))
       ∙ sym (opp_plus G (R.times (i e.1) (v e.0)) (poly_value R i v p))
 
--- a map that keeps sums takes the value of a polynomial to that of the polynomial with other monomials, where it takes the values of the monomials there
+-- a map that keeps sums takes the value of a polynomial to that of the polynomial with other monomials, where it takes
+-- the values of the monomials there
 module _ {B D M N A : Type 0} (R : Semiring B) {S : Semiring D} {cmp : N → N →
     Ordering} (anti : IsAntisymmetric cmp) {C : Numbers A} (L : IsNumbers C) (nr : A → B) {ns : A →
     D} (T : IsNumbering C S ns) where

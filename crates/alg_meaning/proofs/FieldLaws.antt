@@ -19,7 +19,8 @@ use Rattle.alg_meaning.specs.Factors.{Factors, lacks, common}
 use Rattle.alg_meaning.specs.Fractions.{Fraction, frac, cleared}
 use Rattle.alg_meaning.specs.Conditions.{denominators, is_dropped, conditions_of}
 use Rattle.alg_meaning.specs.FractionValues.{factors_in, IsItsFraction, SidesAreFractions, EqualNumerators}
-use Rattle.alg_meaning.specs.Trees.{each_once}
+use Rattle.alg_terms.specs.Lists.{each_once}
+use Rattle.alg_meaning.specs.Trees.{same_tree}
 use Rattle.alg_meaning.specs.Orders.{poly_total, poly_anti}
 use Rattle.alg_meaning.proofs.Typed.{IsTyped, typed_left, typed_right}
 use Rattle.alg_meaning.proofs.DeclaredKinds.{domain_of, kind_field, declared_field}
@@ -89,11 +90,12 @@ module _ (drop : Term → Bool) (P : Term → Type 0) where
   dropped true e = refl
   dropped false e = absurd (true≢false e)
 
-  pub each_denominator : (ts : List Term) → All P (filter (λ t. not (drop t)) (each_once ts)) → EachTerm Kept ts
+  pub each_denominator : (ts : List Term) → All P (filter (λ t. not (drop t)) (each_once same_tree ts)) →
+      EachTerm Kept ts
   each_denominator ts h =
       once_is_all Kept ts
-      (unfiltered Kept (λ t. not (drop t)) (λ t e. inl (dropped (drop t) e)) (each_once ts)
-      (each_kept (filter (λ t. not (drop t)) (each_once ts)) h))
+      (unfiltered Kept (λ t. not (drop t)) (λ t e. inl (dropped (drop t) e)) (each_once same_tree ts)
+      (each_kept (filter (λ t. not (drop t)) (each_once same_tree ts)) h))
 
 module _ {E : Type 0} (u : Ghosts E) {file : File} (fits : Fits u file) {v : List E} (values : AreValues u file v) where
   factors_below : (s : ℕ) (m : Factors) → Each (Of file s) m →

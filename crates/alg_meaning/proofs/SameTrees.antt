@@ -5,7 +5,8 @@ use borrow.Author.Tests.{eqb-true}
 use mathlib.Core.Bool.{true≢false}
 use Rattle.std.proofs.lemmas.Bool.Decides.{Decides-int_eq}
 use Rattle.alg_terms.specs.declared.term.Term.{Term, more_of-Term, end_of-Term, Var, Int, Neg', Add', Sub', Mul', Div', Pow', Hom'}
-use Rattle.alg_meaning.specs.Trees.{same_tree, each_once}
+use Rattle.alg_terms.specs.Lists.{each_once}
+use Rattle.alg_meaning.specs.Trees.{same_tree}
 
 pub both_true : (a b : Bool) → a && b ≡ true → (a ≡ true) × (b ≡ true)
 both_true true b e = (refl, e)
@@ -73,12 +74,12 @@ unfiltered Q p rest (t ∷ ts) h =
       | false ↦ λ e h. (rest t e, unfiltered Q p rest ts h)
     ] refl h
 
-pub once_is_all : (Q : Term → Type 0) (ts : List Term) → EachTerm Q (each_once ts) → EachTerm Q ts
+pub once_is_all : (Q : Term → Type 0) (ts : List Term) → EachTerm Q (each_once same_tree ts) → EachTerm Q ts
 once_is_all Q [] h = tt
 once_is_all Q (t ∷ ts) h = (
   h.0,
   once_is_all Q ts (unfiltered Q (λ u. not (same_tree t u))
-      (λ u e. subst Q (same_trees t u (not_false (same_tree t u) e)) h.0) (each_once ts) h.1),
+      (λ u e. subst Q (same_trees t u (not_false (same_tree t u) e)) h.0) (each_once same_tree ts) h.1),
 )
   where
     not_false : (b : Bool) → not b ≡ false → b ≡ true

@@ -6,7 +6,8 @@ use Rattle.alg_terms.specs.declared.term.Term.{Term, more_of-Term, Var, Int, Neg
 use Rattle.alg_terms.specs.Members.{sort_at}
 use Rattle.alg_meaning.specs.Fractions.{frac, is_unit}
 use Rattle.alg_meaning.specs.FractionsOver.{is_constant}
-use Rattle.alg_meaning.specs.Trees.{each_once}
+use Rattle.alg_terms.specs.Lists.{each_once}
+use Rattle.alg_meaning.specs.Trees.{same_tree}
 
 -- the denominators of a term as written, in postorder of their quotients: those in t, those in u, then u
 unfoldable pub denominators : Term → List Term
@@ -29,4 +30,4 @@ is_dropped char0 t = is_unit (frac t).top || (char0 && is_constant (frac t).top)
 abbrev pub conditions_of : File → Equation → List Term
 conditions_of file e =
     filter (λ t. not (is_dropped (sort_at file e.sort).char0 t))
-    (each_once (denominators e.left ++ denominators e.right))
+    (each_once same_tree (denominators e.left ++ denominators e.right))

@@ -18,7 +18,8 @@ module _ {E : Type 0} (u : Ghosts E) (file : File) (v : List E) (s : ℕ) where
   abbrev pub factors_in : Factors → E
   factors_in m = total (u.one s) (u.mul s) (λ q e. power u s (poly_in u v s q) e) m
 
-  -- the value of a term times that of its fraction's factors is that of its numerator, and that of the factors isn't zero
+  -- the value of a term times that of its fraction's factors is that of its numerator, and that of the factors isn't
+  -- zero
   pub record IsItsFraction (t : Term) : Type 0 where
     pub equation : u.mul s (value u file v s t) (factors_in (frac t).below) ≡ poly_in u v s (frac t).top
     pub nonzero : factors_in (frac t).below ≢ u.zero s

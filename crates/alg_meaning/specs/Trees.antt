@@ -1,5 +1,5 @@
--- Whether two terms are the same tree, and lists with each tree once.
-use Rattle.std.specs.Prelude.{Bool, false, ◌&&◌, ◌==◌, not, List, [], ◌∷◌, filter}
+-- Whether two terms are the same tree.
+use Rattle.std.specs.Prelude.{Bool, false, ◌&&◌, ◌==◌}
 use Rattle.std.specs.Ordering.{int_eq}
 use Rattle.alg_terms.specs.declared.term.Term.{Term, more_of-Term, Var, Int, Neg', Add', Sub', Mul', Div', Pow', Hom'}
 
@@ -19,8 +19,3 @@ same_tree (Div' _ (more_of-Term t _) _ (more_of-Term t' _)) (Div' _ (more_of-Ter
 same_tree (Pow' _ (more_of-Term t _) m) (Pow' _ (more_of-Term u _) n) = same_tree t u && (m == n)
 same_tree (Hom' f _ (more_of-Term t _)) (Hom' g _ (more_of-Term u _)) = (f == g) && same_tree t u
 same_tree _ _ = false
-
--- the list with each tree once, where it comes first
-abbrev pub each_once : List Term → List Term
-each_once [] = []
-each_once (t ∷ ts) = t ∷ filter (λ u. not (same_tree t u)) (each_once ts)

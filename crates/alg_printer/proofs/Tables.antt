@@ -12,7 +12,8 @@ use Rattle.alg_terms.specs.declared.term.Atom.{Atom}
 use Rattle.alg_terms.specs.GoalRules.{IsGoal, IsHyp, IsUse, IsEquation, MayBeBy}
 use Rattle.alg_terms.specs.Members.{hyp_at, no_hyp, goal_at, no_goal, uses_of}
 use Rattle.alg_terms.specs.Valid.{IsValid}
-use Rattle.alg_reify.specs.Table.{each_once, equation_leaves, use_leaves, table, MAX_ATOMS}
+use Rattle.alg_terms.specs.Lists.{each_once}
+use Rattle.alg_reify.specs.Table.{equation_leaves, use_leaves, table, MAX_ATOMS, atom_eq}
 use Rattle.alg_reify.proofs.Uses.{use_leaves-at}
 use Rattle.alg_printer.specs.Monomials.{goal_atoms, IsAtomOf}
 use Rattle.alg_printer.proofs.Leaves.{AreAtoms, AreNamed, equation_has}
@@ -20,11 +21,12 @@ use Rattle.alg_printer.proofs.Leaves.{AreAtoms, AreNamed, equation_has}
 named : (file : File) (e : Equation) → IsEquation file e → AreNamed file e
 named file e rules = (rules.left.indices, rules.right.indices)
 
-once_has : (file : File) (atoms : List Atom) → AreAtoms file atoms → AreAtoms file (each_once atoms)
+once_has : (file : File) (atoms : List Atom) → AreAtoms file atoms → AreAtoms file (each_once atom_eq atoms)
 once_has file [] all = all
 once_has file (a ∷ atoms) all =
     All-cons (IsAtomOf file) a _ (All-head (IsAtomOf file) a atoms all)
-    (All-filter _ (IsAtomOf file) (each_once atoms) (once_has file atoms (All-tail (IsAtomOf file) a atoms all)))
+    (All-filter _ (IsAtomOf file) (each_once atom_eq atoms) (once_has file atoms (All-tail
+    (IsAtomOf file) a atoms all)))
 
 use_has : (file : File) (sort : ℕ) (u : Use) → IsValid file → IsUse file sort u → AreAtoms file (use_leaves file u)
 use_has file sort u valid rules =

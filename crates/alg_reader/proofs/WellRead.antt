@@ -15,7 +15,6 @@ use Rattle.alg_tokens.specs.declared.token.Word.TheVariants as words
 use Rattle.alg_terms.specs.Limits.{MAX_LITERAL, MAX_DEPTH}
 use Rattle.alg_reader.specs.declared.raw.RawNode.TheVariants.{Int}
 use Rattle.alg_reader.specs.declared.raw.RawTerm.{RawTerm}
-use Rattle.alg_reader.specs.declared.raw.RawEquation.{RawEquation}
 use Rattle.alg_reader.specs.declared.raw.RawKind.{RawKind}
 use Rattle.alg_reader.specs.declared.raw.RawKind.TheVariants as raws
 use Rattle.alg_reader.specs.declared.place.Place.{Place}
@@ -25,7 +24,7 @@ use Rattle.alg_reader.specs.TermMeaning.{Value}
 use Rattle.alg_reader.specs.RawNodes.{at as node_at}
 use Rattle.alg_reader.specs.TermMeaning.{sort, hom, vars, hyp, goal}
 use Rattle.alg_reader.specs.Meaning.{kind_value}
-use Rattle.alg_reader.specs.RawTerms.{fold_under, fold_raw, depth_of, names_in, literals_in, exponents_in}
+use Rattle.alg_reader.specs.RawTerms.{fold_under, depth_of, names_in, literals_in, exponents_in}
 use Rattle.alg_reader.specs.TooDeep.{kept, kept_kind}
 use Rattle.alg_reader.specs.Tokens.{Unread, open_with, stop_code, GoesPast}
 use Rattle.alg_reader.specs.Statements.{StandsAt, IsRead}

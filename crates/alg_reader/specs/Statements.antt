@@ -1,6 +1,5 @@
 -- The statement that stands at a place of a text, or the first fault there.
 use Rattle.std.specs.Prelude.{◌≡◌, ◌≢◌, ℕ, ◌⊎◌, List, [], ◌∷◌, ◌++◌, length, None, Result, Ok, Err}
-use Rattle.alg_tokens.specs.declared.code.Code.{Code}
 use Rattle.alg_tokens.specs.declared.code.Code.TheVariants as code
 use Rattle.alg_tokens.specs.declared.token.Token.{Token}
 use Rattle.alg_tokens.specs.declared.token.Refusal.{Refusal}

@@ -2,6 +2,7 @@
 
 ghost use Rattle.std.specs.Prelude.{◌≡◌, ◌≤◌, ◌∷◌, ◌++◌, [], ℕ, List, length, IfOk};
 ghost use Rattle.std.specs.Str.{IsCharBoundary};
+ghost use Rattle.alg_terms.specs.Limits.{MAX_TEXT};
 ghost use Rattle.alg_tokens.specs.declared.token.Token.{Token};
 ghost use Rattle.alg_reader.specs.Statements.{IsRead};
 ghost use Rattle.alg_reader.specs.Tokens.{refusal, unread_at};
@@ -48,7 +49,7 @@ impl From<AllocError> for FileEnd {
 /// which no statement begins, 5 where the text ends inside the statement, 19 at a `(` where 200 are
 /// open, and 20 at a word that can't be read yet. Takes time and memory in the statement's length.
 pub fn read_statement(alloc: Global, text: &str, at: u32, place: Place) -> Result<Raw, FileEnd>
-    requires size { length text.now ≤ 16777216 }
+    requires size { length text.now ≤ MAX_TEXT }
     requires boundary { IsCharBoundary text.now at }
     ensures read { IsRead (unread_at place) place text.now at result }
     ensures well_read { IfOk result (IsWellRead text.now at) }

@@ -2,7 +2,7 @@
 
 use crate::laws::{one_outcome, statements_are_well_read};
 use crate::{FileEnd, Place, Raw, RawKind, RawMethod, Span, read_statement};
-use alg_terms::Kind;
+use alg_terms::{GREATEST_TEXT, Kind};
 use alg_tokens::Refusal;
 use std::alloc::AllocError;
 
@@ -18,7 +18,7 @@ enum Found {
 
 /// What is read at the front of a text that is not too long.
 fn read(rt: &HostRuntime, text: &str) -> Result<Raw, FileEnd> {
-    if text.len() > 16_777_216 {
+    if text.len() > GREATEST_TEXT {
         return Err(FileEnd::NoMemory);
     }
     read_statement(rt.alloc(), text, 0, Place::Plain)

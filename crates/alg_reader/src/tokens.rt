@@ -2,6 +2,7 @@
 
 ghost use Rattle.std.specs.Prelude.{◌≡◌, ◌≤◌, ◌<◌, ◌^◌, ◌↔◌, length, IsTrue, IfOk};
 ghost use Rattle.std.specs.Str.{IsCharBoundary};
+ghost use Rattle.alg_terms.specs.Limits.{MAX_TEXT};
 ghost use Rattle.alg_tokens.specs.declared.token.TokenKind.TheVariants as kinds;
 ghost use Rattle.alg_tokens.specs.declared.token.Sign.TheVariants as signs;
 ghost use Rattle.alg_reader.specs.Tokens.{open_with, stop_code, unread_at, IsStatementCut};
@@ -21,7 +22,7 @@ pub struct Cut {
 /// Cuts the tokens of the statement at a byte: up to its `.`, to a fault of the cutting, to the end of
 /// the text, or to a token at which reading stops.
 pub fn cut_statement(alloc: Global, text: &str, at: u32, place: Place) -> Result<Cut, AllocError>
-    requires size { length text.now ≤ 16777216 }
+    requires size { length text.now ≤ MAX_TEXT }
     requires boundary { IsCharBoundary text.now at }
     ensures { IfOk result (λ cut. IsStatementCut (unread_at place) text.now at cut.tokens.items cut.fault) }
 {

@@ -25,11 +25,11 @@ use Rattle.alg_typing.proofs.FreshNames.{AreDistinct}
 use Rattle.alg_printer.specs.Names.{sort_name}
 use Rattle.alg_reading_back.proofs.Fresh.{fresh_sort, fresh_hom}
 use Rattle.alg_reading_back.proofs.Fronts.{front, sorts_in, homs_in, next, grows}
-use Rattle.alg_reading_back.proofs.LaidStatements.{laid_sort, laid_hom, laid_statement, kind_word, char_pieces, dot, behind}
-use Rattle.alg_reading_back.proofs.LaidTerms.{space, sign, word, name}
+use Rattle.alg_reading_back.proofs.WrittenStatements.{written_sort, written_hom, written_statement, kind_word, char_pieces, dot, behind}
+use Rattle.alg_reading_back.proofs.WrittenTerms.{space, sign, word, name}
 use Rattle.alg_reading_back.proofs.NamesTaken.{new_taken, sort_used, sort_before, two_empty}
 use Rattle.alg_reading_back.proofs.NextLists.{same_lists, same_list, next_item}
-use Rattle.alg_reading_back.proofs.Placed.{Placed, placed_left, placed_right, span_bytes}
+use Rattle.alg_reading_back.proofs.PiecesAt.{PiecesAt, pieces_at_left, pieces_at_right, span_bytes}
 use Rattle.alg_reading_back.proofs.Taken.{IsTaken}
 
 -- where the name of a sort stands in its text
@@ -37,12 +37,12 @@ module _ (sort : Sort) (text : List ℕ) (at : ℕ) where
   abbrev sort_span : Span
   sort_span = behind (word (kind_word sort.kind) ∷ space ∷ []) at sort.name
 
-  sort_bytes : Placed text at (laid_sort sort).pieces → bytes_at text sort_span ≡ sort.name
+  sort_bytes : PiecesAt text at (written_sort sort).pieces → bytes_at text sort_span ≡ sort.name
   sort_bytes placed =
       let head : List Piece = word (kind_word sort.kind) ∷ space ∷ [] in
       let rest = char_pieces sort.char0 ++ dot in
       span_bytes text (at + width head) kinds.Name sort.name rest
-      (placed_right text at head (name sort.name ∷ rest) placed)
+      (pieces_at_right text at head (name sort.name ∷ rest) placed)
 
 -- where the names of a morphism, of its source and of its target stand in its text
 module _ (file : File) (hom : HomDecl) (text : List ℕ) (at : ℕ) where
@@ -70,29 +70,29 @@ module _ (file : File) (hom : HomDecl) (text : List ℕ) (at : ℕ) where
   abbrev target_span : Span
   target_span = behind to_target at (sort_name file hom.to)
 
-  module _ (placed : Placed text at (laid_hom file hom).pieces) where
-    before_target : Placed text at to_target
-    before_target = placed_left text at to_target (name (sort_name file hom.to) ∷ dot) placed
+  module _ (placed : PiecesAt text at (written_hom file hom).pieces) where
+    before_target : PiecesAt text at to_target
+    before_target = pieces_at_left text at to_target (name (sort_name file hom.to) ∷ dot) placed
 
-    before_source : Placed text at to_source
-    before_source = placed_left text at to_source (name (sort_name file hom.from) ∷ arrow) before_target
+    before_source : PiecesAt text at to_source
+    before_source = pieces_at_left text at to_source (name (sort_name file hom.from) ∷ arrow) before_target
 
     hom_bytes : bytes_at text hom_span ≡ hom.name
     hom_bytes = span_bytes text (at + width head) kinds.Name hom.name colon
-        (placed_right text at head (name hom.name ∷ colon) before_source)
+        (pieces_at_right text at head (name hom.name ∷ colon) before_source)
 
     source_bytes : bytes_at text source_span ≡ sort_name file hom.from
     source_bytes = span_bytes text (at + width to_source) kinds.Name (sort_name file hom.from) arrow
-        (placed_right text at to_source (name (sort_name file hom.from) ∷ arrow) before_target)
+        (pieces_at_right text at to_source (name (sort_name file hom.from) ∷ arrow) before_target)
 
     target_bytes : bytes_at text target_span ≡ sort_name file hom.to
     target_bytes = span_bytes text (at + width to_target) kinds.Name (sort_name file hom.to) dot
-        (placed_right text at to_target (name (sort_name file hom.to) ∷ dot) placed)
+        (pieces_at_right text at to_target (name (sort_name file hom.to) ∷ dot) placed)
 
 module _ (file : File) (valid : IsValid file) (before after : List Statement) where
   pub sort_taken : (k : ℕ) → file.order ≡ before ++ (statement.Sort k ∷ after) → (text : List ℕ) (at : ℕ) →
-      Placed text at (laid_statement file (statement.Sort k)).pieces →
-      IsTaken (front file before) text ((laid_statement file (statement.Sort k)).raw at)
+      PiecesAt text at (written_statement file (statement.Sort k)).pieces →
+      IsTaken (front file before) text ((written_statement file (statement.Sort k)).raw at)
       (front file (before ++ statement.Sort k ∷ []))
   sort_taken k split text at placed =
       let s = statement.Sort k in
@@ -130,8 +130,8 @@ module _ (file : File) (valid : IsValid file) (before after : List Statement) wh
 
   pub hom_taken : (f : ℕ) → file.order ≡ before ++ (statement.Hom f ∷ after) →
       AreDistinct (names_of (front file before)) → (text : List ℕ) (at : ℕ) →
-      Placed text at (laid_statement file (statement.Hom f)).pieces →
-      IsTaken (front file before) text ((laid_statement file (statement.Hom f)).raw at)
+      PiecesAt text at (written_statement file (statement.Hom f)).pieces →
+      IsTaken (front file before) text ((written_statement file (statement.Hom f)).raw at)
       (front file (before ++ statement.Hom f ∷ []))
   hom_taken f split distinct text at placed =
       let s = statement.Hom f in

@@ -13,8 +13,8 @@ use Rattle.alg_reader.specs.Grammar.{grammar, Fits, body}
 use Rattle.alg_reader.specs.TermMeaning.{Value, one, two, nothing, term}
 use Rattle.alg_reader.specs.Meaning.{act, value, kind_value}
 use Rattle.alg_reader.specs.Statements.{IsStatement}
-use Rattle.alg_reading_back.proofs.LaidTerms.{space}
-use Rattle.alg_reading_back.proofs.LaidStatements.{dot}
+use Rattle.alg_reading_back.proofs.WrittenTerms.{space}
+use Rattle.alg_reading_back.proofs.WrittenStatements.{dot}
 use Rattle.alg_reading_back.proofs.Derived.{Derives}
 use Rattle.alg_reading_back.proofs.ReadAt.{tokens_append}
 use Rattle.alg_reading_back.proofs.DerivedStatements.{statement_of}

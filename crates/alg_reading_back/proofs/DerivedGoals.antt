@@ -25,9 +25,9 @@ use Rattle.alg_reader.specs.PartMeaning.{spans}
 use Rattle.alg_reader.specs.Meaning.{act}
 use Rattle.alg_reader.specs.Statements.{IsStatement}
 use Rattle.alg_printer.specs.Names.{sort_name, var_name}
-use Rattle.alg_reading_back.proofs.LaidTerms.{space, sign, word, name, span, laid}
-use Rattle.alg_reading_back.proofs.LaidMethods.{method_pieces, method_raw}
-use Rattle.alg_reading_back.proofs.LaidStatements.{laid_vars, laid_goal, name_pieces, name_spans, dot}
+use Rattle.alg_reading_back.proofs.WrittenTerms.{space, sign, word, name, span, written}
+use Rattle.alg_reading_back.proofs.WrittenMethods.{method_pieces, method_raw}
+use Rattle.alg_reading_back.proofs.WrittenStatements.{written_vars, written_goal, name_pieces, name_spans, dot}
 use Rattle.alg_reading_back.proofs.ReadAt.{tokens_append}
 use Rattle.alg_reading_back.proofs.DerivedTerms.{sign_at, term_derived}
 use Rattle.alg_reading_back.proofs.DerivedStatements.{StatementReads, statement_of, word_at, name_at}
@@ -89,7 +89,7 @@ vars_read bytes sort names at place place_is =
     (ap (λ rest. meant.vars (span (at + 3 + 1) bytes ∷ rest) (span sort_at sort)) (names_said behind names)
     ∙ ap (λ n. meant.vars (name_spans (at + 3) (bytes ∷ names)) (span n sort)) (sym place_is))
 
--- the same as they are laid
+-- the same as they are written
 named_vars_read : (bytes sort : List ℕ) (names : List (List ℕ)) →
     let front = word words.Var ∷ (name_pieces (bytes ∷ names) ++ (space ∷ sign signs.Colon ∷ space ∷ [])) in
     (at : ℕ) → IsStatement Plain (tokens_of at (front ++ (name sort ∷ dot)))
@@ -104,7 +104,7 @@ named_vars_read bytes sort names at =
     (vars_read bytes sort names at _ (omega arith))
 
 -- variables, at least one
-pub vars_derived : (file : File) (first count : ℕ) → 1 ≤ count → StatementReads (laid_vars file first count)
+pub vars_derived : (file : File) (first count : ℕ) → 1 ≤ count → StatementReads (written_vars file first count)
 vars_derived file first zero some = absurd (omega arith)
 vars_derived file first (suc count) some =
     named_vars_read (var_name file first) (sort_name file (sort_of_var file first))
@@ -153,11 +153,11 @@ goal_read l r m t u way at left_at equal_at right_at by_at left_is equal_is righ
     (by_rule rules.Goal (word_at words.Goal at ∷ tokens_of (at + 4 + 1) (l ++ equal_pieces)) _ all))))))
 
 -- a goal by any method
-pub goal_derived : (file : File) (goal : Goal) → StatementReads (laid_goal file goal)
+pub goal_derived : (file : File) (goal : Goal) → StatementReads (written_goal file goal)
 goal_derived file goal at =
     let e = goal.equation in
-    let l = (laid file e.left).pieces in
-    let r = (laid file e.right).pieces in
+    let l = (written file e.left).pieces in
+    let r = (written file e.right).pieces in
     let front = word words.Goal ∷ space ∷ [] in
     let equal = front ++ (l ++ (space ∷ [])) in
     let middle = equal ++ (sign signs.Equal ∷ space ∷ []) in
@@ -166,7 +166,7 @@ goal_derived file goal at =
     let middle_wide = width_append equal (sign signs.Equal ∷ space ∷ []) in
     let r_wide = width_append r (space ∷ word words.By ∷ space ∷ []) in
     let by_wide = width_append middle (r ++ (space ∷ word words.By ∷ space ∷ [])) in
-    let raw = (laid_goal file goal).raw at in
+    let raw = (written_goal file goal).raw at in
     subst (λ pieces. IsStatement Plain (tokens_of at pieces) raw)
     (sym (goal_pieces l r (method_pieces file goal.method)))
     (goal_read l r (method_pieces file goal.method) _ _ (method_raw file (at + width by) goal.method)

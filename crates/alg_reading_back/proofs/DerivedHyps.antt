@@ -20,8 +20,8 @@ use Rattle.alg_reader.specs.TermMeaning as meant
 use Rattle.alg_reader.specs.TermMeaning.{one, term}
 use Rattle.alg_reader.specs.Meaning.{act}
 use Rattle.alg_reader.specs.Statements.{IsStatement}
-use Rattle.alg_reading_back.proofs.LaidTerms.{space, sign, word, name, span, laid}
-use Rattle.alg_reading_back.proofs.LaidStatements.{laid_hyp, relation_sign, dot}
+use Rattle.alg_reading_back.proofs.WrittenTerms.{space, sign, word, name, span, written}
+use Rattle.alg_reading_back.proofs.WrittenStatements.{written_hyp, relation_sign, dot}
 use Rattle.alg_reading_back.proofs.DerivedTerms.{sign_at, term_derived}
 use Rattle.alg_reading_back.proofs.DerivedStatements.{StatementReads, word_at, name_at}
 use Rattle.alg_reading_back.proofs.DerivedForms.{IsDerived, one_token, first_way, other_way, by_rule, term_means, token_before, pieces_before, spaced_before, front_before, statement_from}
@@ -93,11 +93,11 @@ hyp_read bytes nonzero l r t u at place left_at relation_at right_at place_is le
     (by_rule rules.Hyp (word_at words.Hyp at ∷ tokens_of (at + 3 + 1) name_pieces) _ all)))))))
 
 -- a hypothesis with either relation
-pub hyp_derived : (file : File) (hyp : Hyp) → StatementReads (laid_hyp file hyp)
+pub hyp_derived : (file : File) (hyp : Hyp) → StatementReads (written_hyp file hyp)
 hyp_derived file hyp at =
     let e = hyp.equation in
-    let l = (laid file e.left).pieces in
-    let r = (laid file e.right).pieces in
+    let l = (written file e.left).pieces in
+    let r = (written file e.right).pieces in
     let front = word words.Hyp ∷ space ∷ [] in
     let colon = front ++ (name hyp.name ∷ space ∷ sign signs.Colon ∷ space ∷ []) in
     let equal = colon ++ (l ++ (space ∷ [])) in
@@ -105,7 +105,7 @@ hyp_derived file hyp at =
     let l_wide = width_append l (space ∷ []) in
     let equal_wide = width_append colon (l ++ (space ∷ [])) in
     let middle_wide = width_append equal (sign (relation_sign hyp.nonzero) ∷ space ∷ []) in
-    let raw = (laid_hyp file hyp).raw at in
+    let raw = (written_hyp file hyp).raw at in
     subst (λ pieces. IsStatement Plain (tokens_of at pieces) raw) (sym (hyp_pieces hyp.name hyp.nonzero l r))
     (hyp_read hyp.name hyp.nonzero l r _ _ at (at + width front) (at + width colon) (at + width equal)
     (at + width middle) (omega arith) (omega arith) (omega arith) (omega arith)

@@ -19,8 +19,8 @@ use Rattle.alg_reader.specs.TermMeaning.{Value, one, two, nothing, used, method}
 use Rattle.alg_reader.specs.PartMeaning.{uses_after, uses_of}
 use Rattle.alg_reader.specs.Meaning.{act}
 use Rattle.alg_printer.specs.Names.{hom_name}
-use Rattle.alg_reading_back.proofs.LaidTerms.{space, sign, word, numeral}
-use Rattle.alg_reading_back.proofs.LaidMethods.{hyp_name, path_pieces, path_raw, use_pieces, use_raw, later_uses, uses_pieces, uses_raw, option_pieces, method_pieces, method_raw}
+use Rattle.alg_reading_back.proofs.WrittenTerms.{space, sign, word, numeral}
+use Rattle.alg_reading_back.proofs.WrittenMethods.{hyp_name, path_pieces, path_raw, use_pieces, use_raw, later_uses, uses_pieces, uses_raw, option_pieces, method_pieces, method_raw}
 use Rattle.alg_reading_back.proofs.ReadAt.{tokens_append, numeral_tree}
 use Rattle.alg_reading_back.proofs.DerivedTerms.{sign_at}
 use Rattle.alg_reading_back.proofs.DerivedStatements.{word_at, name_at}

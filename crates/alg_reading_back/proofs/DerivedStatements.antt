@@ -27,13 +27,13 @@ use Rattle.alg_reader.specs.Meaning.{act, kind_value}
 use Rattle.alg_reader.specs.PartMeaning.{act_statement}
 use Rattle.alg_reader.specs.Statements.{IsStatement}
 use Rattle.alg_printer.specs.Names.{sort_name}
-use Rattle.alg_reading_back.proofs.LaidTerms.{space, sign, word, name, span, laid}
-use Rattle.alg_reading_back.proofs.LaidStatements.{LaidStatement, laid_sort, laid_hom, dot}
+use Rattle.alg_reading_back.proofs.WrittenTerms.{space, sign, word, name, span, written}
+use Rattle.alg_reading_back.proofs.WrittenStatements.{WrittenStatement, written_sort, written_hom, dot}
 use Rattle.alg_reading_back.proofs.DerivedTerms.{sign_at}
 
 -- wherever it begins, its pieces are the raw statement
-abbrev pub StatementReads : LaidStatement → Type 0
-StatementReads laid = (at : ℕ) → IsStatement Plain (tokens_of at laid.pieces) (laid.raw at)
+abbrev pub StatementReads : WrittenStatement → Type 0
+StatementReads written = (at : ℕ) → IsStatement Plain (tokens_of at written.pieces) (written.raw at)
 
 -- a statement's body and its dot
 pub statement_of : (v : Tree) (dot_at : ℕ) (tokens : List Token) (kind : RawKind) → Fits body v →
@@ -61,7 +61,7 @@ zero_at at = record { kind = kinds.Number (pos 0); start = at; stop = at + lengt
 
 -- of each kind, with a characteristic or without
 sort_read : (kind : Kind) (bytes : List ℕ) (char0 : Bool) → (char0 ≡ true → IsDomain kind) →
-    StatementReads (laid_sort (record { name = bytes; kind = kind; char0 = char0 }))
+    StatementReads (written_sort (record { name = bytes; kind = kind; char0 = char0 }))
 unfolding grammar act
 sort_read Ring bytes true domain at = absurd (domain refl)
 sort_read Ring bytes false domain at =
@@ -100,7 +100,7 @@ sort_read Field bytes false domain at =
     (ap (λ n. meant.sort Field (span n bytes) false) (omega arith))
 
 -- a sort of a valid file
-pub sort_derived : (sort : Sort) → IsSort sort → StatementReads (laid_sort sort)
+pub sort_derived : (sort : Sort) → IsSort sort → StatementReads (written_sort sort)
 sort_derived sort domain = sort_read sort.kind sort.name sort.char0 domain
 
 -- ---- morphisms
@@ -130,7 +130,7 @@ hom_read bytes from to at name_place from_place to_place name_is from_is to_is =
     ∙ ap (λ n. meant.hom (span name_place bytes) (span from_place from) (span n to)) (sym to_is))
 
 -- a morphism
-pub hom_derived : (file : File) (hom : HomDecl) → StatementReads (laid_hom file hom)
+pub hom_derived : (file : File) (hom : HomDecl) → StatementReads (written_hom file hom)
 hom_derived file hom at =
     hom_read hom.name (sort_name file hom.from) (sort_name file hom.to) at _ _ _
     (omega arith) (omega arith) (omega arith)

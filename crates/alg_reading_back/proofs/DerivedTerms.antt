@@ -18,12 +18,12 @@ use Rattle.alg_reader.specs.declared.raw.RawTerm.{RawTerm}
 use Rattle.alg_reader.specs.Forms as rules
 use Rattle.alg_reader.specs.RawNodes.{joined}
 use Rattle.alg_printer.specs.Names.{hom_name}
-use Rattle.alg_reading_back.proofs.LaidTerms.{Laid, laid, node_laid, space, sign, numeral, in_parentheses, part_pieces, part_raw, raw_at, spaced, tight}
+use Rattle.alg_reading_back.proofs.WrittenTerms.{WrittenTerm, written, node_written, space, sign, numeral, in_parentheses, part_pieces, part_raw, raw_at, spaced, tight}
 use Rattle.alg_reading_back.proofs.Derived.{Derives, Chained, IsOneOf, one_more, sum_of, product_of, opposite_of}
 use Rattle.alg_reading_back.proofs.ReadAt.{ReadAt, at_sum, at_product, at_unary, at_power, at_leaf, read_below, tokens_append, inside_leaf, image_leaf, variable_leaf, literal_leaf, raised_power}
 
 -- wherever it begins, it is derived from its level
-abbrev pub Reads : Laid → Type 0
+abbrev pub Reads : WrittenTerm → Type 0
 Reads part = (at : ℕ) → ReadAt part.level (tokens_of at part.pieces) (part.raw at)
 
 -- the token of a sign
@@ -36,7 +36,7 @@ inside_tokens : (at : ℕ) (pieces : List Piece) → tokens_of at (in_parenthese
 inside_tokens at pieces =
     ap (λ ts. sign_at signs.ParenLeft at ∷ ts) (tokens_append (at + 1) pieces (sign signs.ParenRight ∷ []))
 
-inside_read : (part : Laid) → Reads part → (at : ℕ) →
+inside_read : (part : WrittenTerm) → Reads part → (at : ℕ) →
     ReadAt 5 (tokens_of at (in_parentheses part.pieces)) (part.raw (at + 1))
 inside_read part reads at =
     let t = part.raw (at + 1) in
@@ -48,7 +48,7 @@ inside_read part reads at =
     (sum_of tokens t (reads (at + 1)).sum)))
 
 -- a part where a level is wanted
-part_read : (wanted : ℕ) (part : Laid) → wanted ≤ 5 → Reads part → (at : ℕ) →
+part_read : (wanted : ℕ) (part : WrittenTerm) → wanted ≤ 5 → Reads part → (at : ℕ) →
     ReadAt wanted (tokens_of at (part_pieces wanted part)) (part_raw wanted part at)
 part_read wanted part low reads at =
     elim (nat_lt part.level wanted) as (λ b. nat_lt part.level wanted ≡ b → ReadAt wanted (tokens_of at
@@ -77,7 +77,8 @@ tight_tokens at before after op short =
     ∙ ap (λ n. tokens_of at before ++ (sign_at op (at + width before) ∷ tokens_of n after)) (omega arith)
 
 -- sums and differences
-spaced_read : (op : Sign) (node : RawTerm → RawTerm → RawNode) (left right : Laid) → length (sign_spelling op) ≡ 1 →
+spaced_read : (op : Sign) (node : RawTerm → RawTerm → RawNode) (left right : WrittenTerm) →
+    length (sign_spelling op) ≡ 1 →
     ((at : ℕ) → IsOneOf signs.Plus signs.Minus (sign_at op at)) →
     ((t u : RawTerm) → joined (kinds.Sign op) t u ≡ node t u) →
     Reads left → Reads right → Reads (spaced op node left right)
@@ -102,7 +103,8 @@ spaced_read op node left right short is joins reads_left reads_right at =
     read_left (product_of later u product))))
 
 -- products and quotients
-tight_read : (op : Sign) (node : RawTerm → RawTerm → RawNode) (left right : Laid) → length (sign_spelling op) ≡ 1 →
+tight_read : (op : Sign) (node : RawTerm → RawTerm → RawNode) (left right : WrittenTerm) →
+    length (sign_spelling op) ≡ 1 →
     ((at : ℕ) → IsOneOf signs.Star signs.Slash (sign_at op at)) →
     ((t u : RawTerm) → joined (kinds.Sign op) t u ≡ node t u) →
     Reads left → Reads right → Reads (tight op node left right)
@@ -130,7 +132,7 @@ tight_read op node left right short is joins reads_left reads_right at =
 -- ---- nodes
 
 -- a negation, a power, an image
-neg_read : (file : File) (part : Laid) → Reads part → Reads (node_laid file (Term-F.Neg part))
+neg_read : (file : File) (part : WrittenTerm) → Reads part → Reads (node_written file (Term-F.Neg part))
 neg_read file part reads at =
     let tokens = tokens_of (at + 1) (part_pieces 3 part) in
     let t = part_raw 3 part (at + 1) in
@@ -139,7 +141,7 @@ neg_read file part reads at =
     at_unary (sign_at signs.Minus at ∷ tokens) (raw_at at (raw.Neg t)) (opposite_of tokens t (sign_at signs.Minus at)
     refl ((part_read 3 part low reads (at + 1)).unary is))
 
-pow_read : (file : File) (part : Laid) (n : ℕ) → Reads part → Reads (node_laid file (Term-F.Pow part n))
+pow_read : (file : File) (part : WrittenTerm) (n : ℕ) → Reads part → Reads (node_written file (Term-F.Pow part n))
 pow_read file part n reads at =
     let before = part_pieces 5 part in
     let head = at + width before in
@@ -152,7 +154,7 @@ pow_read file part n reads at =
     (sym (tokens_append at before (sign signs.Caret ∷ numeral n ∷ [])))
     (raised_power (tokens_of at before) t (sign_at signs.Caret head) (pos n) (head + 1) _ refl leaf))
 
-hom_read : (file : File) (f : ℕ) (part : Laid) → Reads part → Reads (node_laid file (Term-F.Hom f part))
+hom_read : (file : File) (f : ℕ) (part : WrittenTerm) → Reads part → Reads (node_written file (Term-F.Hom f part))
 hom_read file f part reads at =
     let bytes = hom_name file f in
     let start = at + length bytes in
@@ -167,27 +169,28 @@ hom_read file f part reads at =
     (sum_of inner t (reads (start + 1)).sum)))
 
 -- the canonical text of a term is derived from its level
-pub term_read : (file : File) (t : Term) → Reads (laid file t)
+pub term_read : (file : File) (t : Term) → Reads (written file t)
 unfolding fold_term
 term_read file (Var k) = λ at. at_leaf _ _ (variable_leaf _ refl)
 term_read file (Int n) = λ at. at_leaf _ _ (literal_leaf n at _)
-term_read file (Neg' p (more_of-Term t r)) = neg_read file (laid file t) (term_read file t)
+term_read file (Neg' p (more_of-Term t r)) = neg_read file (written file t) (term_read file t)
 term_read file (Add' p (more_of-Term t r) q (more_of-Term u s)) =
-    spaced_read signs.Plus (λ x y. raw.Add x y) (laid file t) (laid file u) refl (λ at. inl refl) (λ x y. refl)
+    spaced_read signs.Plus (λ x y. raw.Add x y) (written file t) (written file u) refl (λ at. inl refl) (λ x y. refl)
     (term_read file t) (term_read file u)
 term_read file (Sub' p (more_of-Term t r) q (more_of-Term u s)) =
-    spaced_read signs.Minus (λ x y. raw.Sub x y) (laid file t) (laid file u) refl (λ at. inr refl) (λ x y. refl)
+    spaced_read signs.Minus (λ x y. raw.Sub x y) (written file t) (written file u) refl (λ at. inr refl) (λ x y. refl)
     (term_read file t) (term_read file u)
 term_read file (Mul' p (more_of-Term t r) q (more_of-Term u s)) =
-    tight_read signs.Star (λ x y. raw.Mul x y) (laid file t) (laid file u) refl (λ at. inl refl) (λ x y. refl)
+    tight_read signs.Star (λ x y. raw.Mul x y) (written file t) (written file u) refl (λ at. inl refl) (λ x y. refl)
     (term_read file t) (term_read file u)
 term_read file (Div' p (more_of-Term t r) q (more_of-Term u s)) =
-    tight_read signs.Slash (λ x y. raw.Div x y) (laid file t) (laid file u) refl (λ at. inr refl) (λ x y. refl)
+    tight_read signs.Slash (λ x y. raw.Div x y) (written file t) (written file u) refl (λ at. inr refl) (λ x y. refl)
     (term_read file t) (term_read file u)
-term_read file (Pow' p (more_of-Term t r) n) = pow_read file (laid file t) n (term_read file t)
-term_read file (Hom' f p (more_of-Term t r)) = hom_read file f (laid file t) (term_read file t)
+term_read file (Pow' p (more_of-Term t r) n) = pow_read file (written file t) n (term_read file t)
+term_read file (Hom' f p (more_of-Term t r)) = hom_read file f (written file t) (term_read file t)
 
 -- the canonical text of a term is a sum that says it
 pub term_derived : (file : File) (t : Term) (at : ℕ) →
-    Derives rules.Sum (tokens_of at (laid file t).pieces) ((laid file t).raw at)
-term_derived file t at = sum_of (tokens_of at (laid file t).pieces) ((laid file t).raw at) (term_read file t at).sum
+    Derives rules.Sum (tokens_of at (written file t).pieces) ((written file t).raw at)
+term_derived file t at = sum_of (tokens_of at (written file t).pieces) ((written file t).raw at)
+    (term_read file t at).sum

@@ -1,5 +1,5 @@
 -- Where terms of a file divide, they divide in its front.
-use Rattle.std.proofs.Common.{◌<◌, ℕ, Bool, true, List, ◌∷◌, length, refl, subst}
+use Rattle.std.proofs.Common.{◌<◌, ℕ, true, List, ◌∷◌, length, refl, subst}
 use Rattle.std.specs.Prelude.{All, slice_index_or}
 use Rattle.std.proofs.lemmas.List.Elements.{All-cons}
 use Rattle.alg_terms.specs.declared.file.File.{File}
@@ -8,27 +8,10 @@ use Rattle.alg_terms.specs.Kinds.{IsField}
 use Rattle.alg_terms.specs.Members.{kind_of, source_of, target_of, no_hom}
 use Rattle.alg_terms.specs.Nodes.{EachNode}
 use Rattle.alg_terms.specs.Sorts.{EachNodeAt}
-use Rattle.alg_terms.specs.TermRules.{IsInRange, HasNoQuotient, DividesInFields}
+use Rattle.alg_terms.specs.TermRules.{IsInRange, DividesInFields}
 use Rattle.alg_typing.proofs.Growing.{Grows, kind_same, source_same, target_same}
+use Rattle.alg_typing.proofs.SortsClear.{Divides}
 use Rattle.alg_reading_back.proofs.Closed.{IsClosed}
-use Rattle.alg_reading_back.proofs.SortRules.{Divides}
-
--- a term without quotients divides only where it may
-module _ (g : File) (may_divide : Bool) where
-  pub plain_divides : (t : Term) (s : ℕ) (above : List ℕ) → HasNoQuotient t → Divides g may_divide s above t
-  unfolding EachNode EachNodeAt
-  plain_divides (Var k) s above h = tt
-  plain_divides (Int n) s above h = tt
-  plain_divides (Neg' _ (more_of-Term t _)) s above h = (tt, plain_divides t s above h.1)
-  plain_divides (Add' _ (more_of-Term t _) _ (more_of-Term u _)) s above h =
-      (tt, plain_divides t s above h.1, plain_divides u s above h.2)
-  plain_divides (Sub' _ (more_of-Term t _) _ (more_of-Term u _)) s above h =
-      (tt, plain_divides t s above h.1, plain_divides u s above h.2)
-  plain_divides (Mul' _ (more_of-Term t _) _ (more_of-Term u _)) s above h =
-      (tt, plain_divides t s above h.1, plain_divides u s above h.2)
-  plain_divides (Div' _ (more_of-Term t _) _ (more_of-Term u _)) s above h = absurd h.0
-  plain_divides (Pow' _ (more_of-Term t _) n) s above h = (tt, plain_divides t s above h.1)
-  plain_divides (Hom' f _ (more_of-Term t _)) s above h = (tt, plain_divides t (source_of g f) (f ∷ above) h.1)
 
 module _ (g file : File) (grows : Grows g file) (closed : IsClosed g) where
   -- a sort of the front that is a field in the file is one there

@@ -22,13 +22,12 @@ use Rattle.alg_typing.specs.TermSorts.{sorted, differ}
 use Rattle.alg_typing.proofs.FreshNames.{AreDistinct}
 use Rattle.alg_typing.proofs.Growing.{Grows, agree_same}
 use Rattle.alg_typing.proofs.GrowingTerms.{own_same, or_same}
-use Rattle.alg_reading_back.proofs.LaidStatements.{laid_sides, relation_sign}
-use Rattle.alg_reading_back.proofs.LaidTerms.{laid, space, sign}
-use Rattle.alg_reading_back.proofs.Placed.{Placed, placed_left, placed_right}
+use Rattle.alg_typing.proofs.Resolving.{own_resolved}
+use Rattle.alg_typing.proofs.SortsClear.{Divides, never_differ, no_cause, term_clear}
+use Rattle.alg_reading_back.proofs.WrittenStatements.{written_sides, relation_sign}
+use Rattle.alg_reading_back.proofs.WrittenTerms.{written, space, sign}
+use Rattle.alg_reading_back.proofs.PiecesAt.{PiecesAt, pieces_at_left, pieces_at_right}
 use Rattle.alg_reading_back.proofs.Shrinking.{rules}
-use Rattle.alg_reading_back.proofs.SortRules.{Divides}
-use Rattle.alg_reading_back.proofs.ClearNodes.{never_differ, no_cause, own_same as own_back}
-use Rattle.alg_reading_back.proofs.SortsBack.{term_clear}
 use Rattle.alg_reading_back.proofs.TermsBack.{term_back}
 use Rattle.alg_reading_back.proofs.UsedBefore.{AreInRange}
 
@@ -98,15 +97,15 @@ module _ (g : File) (text : List ℕ) (may_divide : Bool) (e : Equation) (raw : 
 module _ (file g : File) (text : List ℕ) (distinct : AreDistinct (names_of g)) (grows : Grows g file)
     (may_divide : Bool) (e : Equation) (is : IsEquation file e) (range : AreInRange g e) where
   side : (t : Term) (at : ℕ) → EachNode (IsInRange g) t → IsTerm file t → Divides g may_divide e.sort [] t →
-      Placed text at (laid file t).pieces → IsSideBack g text may_divide e.sort t ((laid file t).raw at)
+      PiecesAt text at (written file t).pieces → IsSideBack g text may_divide e.sort t ((written file t).raw at)
   side t at here whole divides placed =
-      let kept = rules g file grows t here whole in
+      let read = (written file t).raw at in
       let back = term_back file g text distinct grows t here at placed in
       record {
         term = back.0;
         names = back.1;
-        sorts = (term_clear file g text distinct grows may_divide t e.sort [] kept divides at placed).clear;
-        own = λ b. own_back g text b t ((laid file t).raw at) back.0;
+        sorts = term_clear g text may_divide t read e.sort back.0 (rules g file grows t here whole) divides;
+        own = λ b. own_resolved g text b read.head read.node ∙ ap (own_sort g) back.0;
       }
 
   -- in the front its sides have the sorts that they have in the file
@@ -126,19 +125,21 @@ module _ (file g : File) (text : List ℕ) (distinct : AreDistinct (names_of g))
   -- it comes back where its pieces stand behind others
   pub equation_back : Divides g may_divide e.sort [] e.left → Divides g may_divide e.sort [] e.right →
       (nonzero : Bool) (front rest : List Piece) (at : ℕ) →
-      Placed text at ((laid_sides file front nonzero e).to_right ++ ((laid_sides file front nonzero e).right ++ rest)) →
-      IsEquationBack g text may_divide e ((laid_sides file front nonzero e).raw at)
+      PiecesAt text at ((written_sides file front nonzero e).to_right ++
+      ((written_sides file front nonzero e).right ++ rest)) →
+      IsEquationBack g text may_divide e ((written_sides file front nonzero e).raw at)
   equation_back divides divides' nonzero front rest at placed =
-      let left = (laid file e.left).pieces in
+      let left = (written file e.left).pieces in
       let to_relation = front ++ (left ++ (space ∷ [])) in
       let relation = sign (relation_sign nonzero) ∷ space ∷ [] in
       let to_right = to_relation ++ relation in
-      let right = (laid file e.right).pieces in
-      let first = placed_left text at to_relation relation (placed_left text at to_right (right ++ rest) placed) in
-      let from_left = placed_right text at front (left ++ (space ∷ [])) first in
-      let from_right = placed_right text at to_right (right ++ rest) placed in
-      sides_back g text may_divide e ((laid_sides file front nonzero e).raw at)
+      let right = (written file e.right).pieces in
+      let first = pieces_at_left text at to_relation relation (pieces_at_left text at to_right
+      (right ++ rest) placed) in
+      let from_left = pieces_at_right text at front (left ++ (space ∷ [])) first in
+      let from_right = pieces_at_right text at to_right (right ++ rest) placed in
+      sides_back g text may_divide e ((written_sides file front nonzero e).raw at)
       (side e.left (at + width front) range.left is.left divides
-      (placed_left text (at + width front) left (space ∷ []) from_left))
+      (pieces_at_left text (at + width front) left (space ∷ []) from_left))
       (side e.right (at + width to_right) range.right is.right divides'
-      (placed_left text (at + width to_right) right rest from_right)) agree_there sort_there
+      (pieces_at_left text (at + width to_right) right rest from_right)) agree_there sort_there

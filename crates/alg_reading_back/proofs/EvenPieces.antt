@@ -11,8 +11,8 @@ use Rattle.alg_tokens.specs.Laws.{tokens_of}
 use Rattle.alg_tokens.specs.Pieces.{Piece, Blank, Lexeme, bytes_of, is_blank}
 use Rattle.alg_tokens.specs.Spelling.{spelling}
 use Rattle.alg_tokens.proofs.Leads.{word_spelled}
-use Rattle.alg_tokens.proofs.Neighbours.{spell, AllStand}
-use Rattle.alg_tokens.proofs.Standing.{Stands}
+use Rattle.alg_tokens.proofs.Neighbours.{spell, EachEnds}
+use Rattle.alg_tokens.proofs.PieceEnds.{EndsBefore}
 use Rattle.alg_reader.specs.Tokens as reader
 use Rattle.alg_reader.specs.Tokens.{GoesPast, none_unread, stop_code}
 use Rattle.alg_reading_back.specs.ReadingBack.{most_open}
@@ -41,7 +41,7 @@ digits_plain : (bytes : List ℕ) → AllByRecursion IsAsciiDigit bytes → NoPa
 digits_plain [] all = tt
 digits_plain (b ∷ bytes) all = (digit_plain b all.0, digits_plain bytes all.1)
 
-even_piece : (piece : Piece) (next : List ℕ) → Stands piece next → IsEvenPiece piece
+even_piece : (piece : Piece) (next : List ℕ) → EndsBefore piece next → IsEvenPiece piece
 even_piece (Blank bytes) next (b, is, blank) = subst NoParens (sym is) (blank_plain b blank, tt)
 even_piece (Lexeme kinds.Name bytes) next (is, free, stops) = spelled_plain bytes is
 even_piece (Lexeme (kinds.Word word) bytes) next (is, stops) =
@@ -50,10 +50,10 @@ even_piece (Lexeme (kinds.Number value) bytes) next (is, same, small, stops) = d
 even_piece (Lexeme (kinds.Sign sign) bytes) next (is, stops) = is
 even_piece (Lexeme kinds.End bytes) next stands = absurd stands
 
-pub even_standing : (pieces : List Piece) (rest : List ℕ) → AllStand pieces rest → Even pieces
-even_standing [] rest stand = tt
-even_standing (piece ∷ pieces) rest (stands, stand) =
-    (even_piece piece (spell pieces ++ rest) stands, even_standing pieces rest stand)
+pub even_if_ends : (pieces : List Piece) (rest : List ℕ) → EachEnds pieces rest → Even pieces
+even_if_ends [] rest stand = tt
+even_if_ends (piece ∷ pieces) rest (stands, stand) =
+    (even_piece piece (spell pieces ++ rest) stands, even_if_ends pieces rest stand)
 
 -- ---- how many are open
 

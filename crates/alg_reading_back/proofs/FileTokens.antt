@@ -17,32 +17,32 @@ use Rattle.alg_tokens.specs.Laws.{width, tokens_of, TokensFrom, CutFromAnywhere}
 use Rattle.alg_tokens.specs.Next.{IsNext}
 use Rattle.alg_tokens.specs.Pieces.{Piece, Blank, Lexeme, bytes_of, IsCut}
 use Rattle.alg_tokens.proofs.Following.{cut_goes_on}
-use Rattle.alg_tokens.proofs.Neighbours.{spell, spelled_width, width_append, AllStand, cut_standing, all_within_max, piece_there}
+use Rattle.alg_tokens.proofs.Neighbours.{spell, spelled_width, width_append, EachEnds, cut_if_ends, all_within_max, piece_there}
 use Rattle.alg_reader.specs.Tokens.{TokensTo}
 use Rattle.alg_reader.proofs.Found.{all_split}
 use Rattle.alg_printer.specs.Names.{sort_name, var_name}
 use Rattle.alg_printer.specs.Text.{text_of, IsStatementOf}
 use Rattle.alg_printer.proofs.Declared.{statements_are_of}
 use Rattle.alg_reading_back.specs.ReadingBack.{unanswered}
-use Rattle.alg_reading_back.proofs.LaidTerms.{line_feed, space, sign, word, name}
-use Rattle.alg_reading_back.proofs.LaidMethods.{method_pieces}
-use Rattle.alg_reading_back.proofs.LaidStatements.{laid_sides, laid_statement, goal_front, kind_word, char_pieces, name_pieces, dot, file_pieces}
+use Rattle.alg_reading_back.proofs.WrittenTerms.{line_feed, space, sign, word, name}
+use Rattle.alg_reading_back.proofs.WrittenMethods.{method_pieces}
+use Rattle.alg_reading_back.proofs.WrittenStatements.{written_sides, written_statement, goal_front, kind_word, char_pieces, name_pieces, dot, file_pieces}
 use Rattle.alg_reading_back.proofs.SpelledStatements.{line_pieces, spelled_file}
-use Rattle.alg_reading_back.proofs.StandingStatements.{stand_file}
+use Rattle.alg_reading_back.proofs.StatementEnds.{file_pieces_end}
 
 -- ---- from a place on
 
-stand_back : (front back : List Piece) (rest : List ℕ) → AllStand (front ++ back) rest → AllStand back rest
+stand_back : (front back : List Piece) (rest : List ℕ) → EachEnds (front ++ back) rest → EachEnds back rest
 stand_back [] back rest stand = stand
 stand_back (piece ∷ front) back rest (stands, stand) = stand_back front back rest stand
 
 -- the tokens of the pieces behind others, from where these begin
 tokens_from : CutFromAnywhere → (text : List ℕ) (before after : List Piece) → text ≡ spell (before ++ after) →
-    AllStand (before ++ after) [] → TokensFrom text (width before) (tokens_of (width before) after)
+    EachEnds (before ++ after) [] → TokensFrom text (width before) (tokens_of (width before) after)
 tokens_from law text before after spelled stand =
     let whole = before ++ after in
     let P : List ℕ → Type 0 = λ bs. IsCut whole bs [] in
-    let cut : IsCut whole text [] = subst P (append-nil (spell whole) ∙ sym spelled) (cut_standing whole [] stand) in
+    let cut : IsCut whole text [] = subst P (append-nil (spell whole) ∙ sym spelled) (cut_if_ends whole [] stand) in
     let long : length text ≡ width before + width after =
     ap length spelled ∙ spelled_width whole ∙ width_append before after in
     (law text (width before) (tokens_of (width before) after) (omega (arith, long))).1 (
@@ -59,7 +59,7 @@ EndsLine pieces = (pieces ≡ []) ⊎ ((front : List Piece) × (pieces ≡ front
 lines_end : (file : File) (order : List Statement) → EndsLine (file_pieces file order)
 lines_end file [] = inl refl
 lines_end file (s ∷ order) =
-    let pieces = (laid_statement file s).pieces in
+    let pieces = (written_statement file s).pieces in
     elim (lines_end file order) [
       | inl none ↦ inr (pieces, ap (λ more. line_pieces pieces ++ more) none ∙ append-nil (line_pieces pieces))
       | inr (front, e) ↦ inr (
@@ -71,17 +71,17 @@ lines_end file (s ∷ order) =
 
 -- the tokens behind whole lines, from the line feed before them
 tokens_behind : CutFromAnywhere → (text : List ℕ) (before after : List Piece) → EndsLine before →
-    text ≡ spell (before ++ after) → AllStand (before ++ after) [] →
+    text ≡ spell (before ++ after) → EachEnds (before ++ after) [] →
     TokensFrom text (width before - 1) (tokens_of (width before) after)
 tokens_behind law text before after (inl none) spelled stand =
-    let P : List Piece → Type 0 = λ ps. AllStand (ps ++ after) [] in
+    let P : List Piece → Type 0 = λ ps. EachEnds (ps ++ after) [] in
     let Q : List Piece → Type 0 = λ ps. TokensFrom text (width ps - 1) (tokens_of (width ps) after) in
     let same = spelled ∙ ap (λ ps. spell (ps ++ after)) none in
     subst Q (sym none) (tokens_from law text [] after same (subst P none stand))
 tokens_behind law text before after (inr (front, e)) spelled stand =
     let whole : before ++ after ≡ front ++ (line_feed ∷ after) =
     ap (λ ps. ps ++ after) e ∙ append_assoc front (line_feed ∷ []) after in
-    let P : List Piece → Type 0 = λ ps. AllStand ps [] in
+    let P : List Piece → Type 0 = λ ps. EachEnds ps [] in
     let there = tokens_from law text front (line_feed ∷ after) (spelled ∙ ap spell whole) (subst P whole stand) in
     let place : width before ≡ width front + 1 = ap width e ∙ width_append front (line_feed ∷ []) in
     let Q : ℕ → Type 0 = λ n. TokensFrom text n (tokens_of (width before) after) in
@@ -115,7 +115,7 @@ EndsDot pieces = (front : List Piece) × (pieces ≡ front ++ dot)
 ends_dot : (front back : List Piece) → EndsDot (front ++ (back ++ dot))
 ends_dot front back = (front ++ back, sym (append_assoc front back dot))
 
-statement_ends : (file : File) (s : Statement) → EndsDot (laid_statement file s).pieces
+statement_ends : (file : File) (s : Statement) → EndsDot (written_statement file s).pieces
 statement_ends file (statement.Sort s) =
     let sort = sort_at file s in
     (word (kind_word sort.kind) ∷ space ∷ name sort.name ∷ char_pieces sort.char0, refl)
@@ -131,7 +131,7 @@ statement_ends file (statement.Vars first count) =
 statement_ends file (statement.Hyp h) =
     let hyp = hyp_at file h in
     let front = word words.Hyp ∷ space ∷ name hyp.name ∷ space ∷ sign signs.Colon ∷ space ∷ [] in
-    let sides = laid_sides file front hyp.nonzero hyp.equation in
+    let sides = written_sides file front hyp.nonzero hyp.equation in
     ends_dot sides.to_right sides.right
 statement_ends file (statement.Goal i) =
     let goal = goal_at file i in
@@ -140,10 +140,11 @@ statement_ends file (statement.Goal i) =
 -- the pieces of a file before a statement, those of the statement, and those behind it
 pub around : (file : File) (before after : List Statement) (s : Statement) → file.order ≡ before ++ (s ∷ after) →
     file_pieces file file.order
-    ≡ file_pieces file before ++ ((laid_statement file s).pieces ++ (line_feed ∷ file_pieces file after))
+    ≡ file_pieces file before ++ ((written_statement file s).pieces ++ (line_feed ∷ file_pieces file after))
 around file before after s order =
-    let pieces = (laid_statement file s).pieces in
-    ap (file_pieces file) order ∙ flat_map-append (λ s. line_pieces (laid_statement file s).pieces) before (s ∷ after)
+    let pieces = (written_statement file s).pieces in
+    ap (file_pieces file) order
+    ∙ flat_map-append (λ s. line_pieces (written_statement file s).pieces) before (s ∷ after)
     ∙ ap (λ ps. file_pieces file before ++ ps) (append_assoc pieces (line_feed ∷ []) (file_pieces file after))
 
 -- the statement is of the file
@@ -158,17 +159,17 @@ statement_of file valid before after s order =
 pub statement_tokens : CutFromAnywhere → (file : File) → IsValid file →
     (before after : List Statement) (s : Statement) → file.order ≡ before ++ (s ∷ after) →
     let at = width (file_pieces file before) in
-    let pieces = (laid_statement file s).pieces in
+    let pieces = (written_statement file s).pieces in
     TokensTo (text_of file (unanswered file)) (at - 1) (tokens_of at pieces) (at + width pieces)
 statement_tokens law file valid before after s order =
     let text = text_of file (unanswered file) in
     let at = width (file_pieces file before) in
-    let pieces = (laid_statement file s).pieces in
+    let pieces = (written_statement file s).pieces in
     let rest = line_feed ∷ file_pieces file after in
     let whole = around file before after s order in
-    let P : List Piece → Type 0 = λ ps. AllStand ps [] in
+    let P : List Piece → Type 0 = λ ps. EachEnds ps [] in
     let tokens = tokens_behind law text (file_pieces file before) (pieces ++ rest) (lines_end file before)
-    (sym (spelled_file file valid) ∙ ap spell whole) (subst P whole (stand_file file valid)) in
+    (sym (spelled_file file valid) ∙ ap spell whole) (subst P whole (file_pieces_end file valid)) in
     let (front, e) = statement_ends file s in
     let Q : List Piece → Type 0 = λ ps. TokensFrom text (at - 1) (tokens_of at ps) in
     let R : List Piece → Type 0 = λ ps. TokensTo text (at - 1) (tokens_of at ps) (at + width ps) in
@@ -184,10 +185,10 @@ pub text_ends : CutFromAnywhere → (file : File) → IsValid file →
     }))
 text_ends law file valid =
     let pieces = file_pieces file file.order in
-    let P : List Piece → Type 0 = λ ps. AllStand ps [] in
+    let P : List Piece → Type 0 = λ ps. EachEnds ps [] in
     tokens_behind law (text_of file (unanswered file)) pieces [] (lines_end file file.order)
     (sym (spelled_file file valid) ∙ ap spell (sym (append-nil pieces)))
-    (subst P (sym (append-nil pieces)) (stand_file file valid))
+    (subst P (sym (append-nil pieces)) (file_pieces_end file valid))
 
 -- ---- bytes
 
@@ -209,7 +210,7 @@ piece_bytes file valid front back piece e =
 -- so does a piece of a statement
 pub statement_piece_bytes : (file : File) → IsValid file → (before after : List Statement)
     (s : Statement) → file.order ≡ before ++ (s ∷ after) → (front back : List Piece) (piece : Piece) →
-    (laid_statement file s).pieces ≡ front ++ (piece ∷ back) →
+    (written_statement file s).pieces ≡ front ++ (piece ∷ back) →
     let at = width (file_pieces file before) + width front in
     take (length (bytes_of piece)) (drop at (text_of file (unanswered file))) ≡ bytes_of piece
 statement_piece_bytes file valid before after s order front back piece e =

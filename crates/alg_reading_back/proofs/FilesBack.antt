@@ -1,5 +1,5 @@
 -- The statements of a file's canonical text, each behind the front of those before it.
-use Rattle.std.proofs.Common.{◌≡◌, ◌≤◌, ℕ, zero, suc, ◌+◌, ◌-◌, List, [], ◌∷◌, ◌++◌, length, take, None, refl, sym, ap, ◌∙◌, subst, arith, append_assoc, append-nil}
+use Rattle.std.proofs.Common.{◌≡◌, ◌≤◌, ℕ, zero, suc, ◌+◌, ◌-◌, List, [], ◌∷◌, ◌++◌, length, take, None, refl, sym, ap, ◌∙◌, subst, arith, append-nil}
 use Rattle.std.specs.List.{AllByRecursion}
 use Rattle.std.specs.Option.{option_or, option_map}
 use Rattle.std.proofs.lemmas.List.Concat.{flat_map-append}
@@ -26,18 +26,18 @@ use Rattle.alg_printer.specs.Text.{text_of, statement_text, IsStatementOf}
 use Rattle.alg_reading_back.specs.ReadingBack.{unanswered, most_open, OpensFew}
 use Rattle.alg_reading_back.proofs.ClosedFronts.{IsClosedBy, front_closed}
 use Rattle.alg_reading_back.proofs.DeclarationsBack.{sort_taken, hom_taken}
-use Rattle.alg_reading_back.proofs.EvenPieces.{HasFewOpen, even_standing, few_open, few_pass}
+use Rattle.alg_reading_back.proofs.EvenPieces.{HasFewOpen, even_if_ends, few_open, few_pass}
 use Rattle.alg_reading_back.proofs.FileTokens.{statement_of, statement_piece_bytes}
 use Rattle.alg_reading_back.proofs.FrontNames.{front_distinct}
 use Rattle.alg_reading_back.proofs.Fronts.{front, next}
 use Rattle.alg_reading_back.proofs.GoalsBack.{goal_taken}
 use Rattle.alg_reading_back.proofs.HypsBack.{hyp_taken}
-use Rattle.alg_reading_back.proofs.LaidStatements.{laid_statement, file_pieces}
-use Rattle.alg_reading_back.proofs.LaidTerms.{line_feed}
+use Rattle.alg_reading_back.proofs.WrittenStatements.{written_statement, file_pieces}
+use Rattle.alg_reading_back.proofs.WrittenTerms.{line_feed}
 use Rattle.alg_reading_back.proofs.NextLists.{same_lists}
-use Rattle.alg_reading_back.proofs.Placed.{Placed, placed_all}
+use Rattle.alg_reading_back.proofs.PiecesAt.{PiecesAt, pieces_at_all}
 use Rattle.alg_reading_back.proofs.SpelledStatements.{line_pieces, spelled_statement}
-use Rattle.alg_reading_back.proofs.StandingStatements.{stand_statement}
+use Rattle.alg_reading_back.proofs.StatementEnds.{statement_pieces_end}
 use Rattle.alg_reading_back.proofs.Taken.{IsTaken}
 use Rattle.alg_reading_back.proofs.VarLists.{numbers_long}
 use Rattle.alg_reading_back.proofs.VarsBack.{vars_taken}
@@ -88,7 +88,7 @@ module _ (law : CutFromAnywhere) (file : File) (valid : IsValid file) (few : Ope
   text = text_of file (unanswered file)
 
   abbrev pub pieces_of : Statement → List Piece
-  pieces_of s = (laid_statement file s).pieces
+  pieces_of s = (written_statement file s).pieces
 
   -- where the next statement stands behind some others, and where reading goes on to it
   abbrev pub begin : List Statement → ℕ
@@ -100,7 +100,7 @@ module _ (law : CutFromAnywhere) (file : File) (valid : IsValid file) (few : Ope
   -- what is read of it
   abbrev pub raw_of : List Statement → Statement → Raw
   raw_of before s = record {
-    kind = (laid_statement file s).raw (begin before);
+    kind = (written_statement file s).raw (begin before);
     start = begin before;
     stop = begin before + width (pieces_of s);
     too_deep = None;
@@ -118,8 +118,8 @@ module _ (law : CutFromAnywhere) (file : File) (valid : IsValid file) (few : Ope
       most_open 0 (statement_text file (unanswered file) s) ≤ MAX_OPEN → HasFewOpen 0 (tokens_of at (pieces_of s))
   tokens_few s at is low =
       let rest = spell (line_feed ∷ []) in
-      let even = even_standing (pieces_of s) (10 ∷ [])
-      (stand_statement file s valid is (10 ∷ []) (10, [], refl, refl)) in
+      let even = even_if_ends (pieces_of s) (10 ∷ [])
+      (statement_pieces_end file s valid is (10 ∷ []) (10, [], refl, refl)) in
       let whole : most_open 0 (spell (pieces_of s) ++ rest) ≡ most_open 0 (statement_text file (unanswered file) s) =
       ap (most_open 0) (sym (spell_append (pieces_of s) (line_feed ∷ [])) ∙ spelled_statement file s is) in
       few_open 0 at (pieces_of s) rest even (omega (arith, whole, low))
@@ -131,31 +131,31 @@ module _ (law : CutFromAnywhere) (file : File) (valid : IsValid file) (few : Ope
       few_pass 0 None (tokens_of (begin before) (pieces_of s))
       (tokens_few s (begin before) (statement_of file valid before after s split) (few_there before after s split))
 
-  placed_there : (before after : List Statement) (s : Statement) → file.order ≡ before ++ (s ∷ after) →
-      Placed text (begin before) (pieces_of s)
-  placed_there before after s split =
-      placed_all text (begin before) (pieces_of s) (statement_piece_bytes file valid before after s split)
+  pieces_there : (before after : List Statement) (s : Statement) → file.order ≡ before ++ (s ∷ after) →
+      PiecesAt text (begin before) (pieces_of s)
+  pieces_there before after s split =
+      pieces_at_all text (begin before) (pieces_of s) (statement_piece_bytes file valid before after s split)
 
   -- the front before it takes it
   pub taken_there : (before after : List Statement) (s : Statement) → file.order ≡ before ++ (s ∷ after) →
       IsStatementOf file s → IsClosedBy file before →
-      IsTaken (front file before) text ((laid_statement file s).raw (begin before)) (front file (before ++ s ∷ []))
+      IsTaken (front file before) text ((written_statement file s).raw (begin before)) (front file (before ++ s ∷ []))
   taken_there before after (statement.Sort k) split is closed =
       sort_taken file valid before after k split text (begin before)
-      (placed_there before after (statement.Sort k) split)
+      (pieces_there before after (statement.Sort k) split)
   taken_there before after (statement.Hom f) split is closed =
       hom_taken file valid before after f split (front_distinct file valid before) text (begin before)
-      (placed_there before after (statement.Hom f) split)
+      (pieces_there before after (statement.Hom f) split)
   taken_there before after (statement.Vars first count) split is closed =
       vars_taken file valid before after first count split (front_distinct file valid before) text (begin before)
-      (placed_there before after (statement.Vars first count) split)
+      (pieces_there before after (statement.Vars first count) split)
   taken_there before after (statement.Hyp h) split is closed =
       hyp_taken file valid before after h split is text (begin before)
-      (placed_there before after (statement.Hyp h) split)
+      (pieces_there before after (statement.Hyp h) split)
   taken_there before after (statement.Goal i) split is closed =
       let fits = (next file valid.ordered before after (statement.Goal i) split).sorts.1 in
       goal_taken file valid before after i split is (front_closed file before (omega (arith, fits)) closed) text
-      (begin before) (placed_there before after (statement.Goal i) split)
+      (begin before) (pieces_there before after (statement.Goal i) split)
 
   -- it stops where reading goes on behind it
   pub next_place : (before : List Statement) (s : Statement) →

@@ -26,18 +26,19 @@ use Rattle.alg_typing.specs.SortFaults.{equation_sorts, method_sorts, may_divide
 use Rattle.alg_typing.proofs.Ordering.{all_left, all_right}
 use Rattle.alg_reading_back.proofs.Closed.{IsClosed}
 use Rattle.alg_reading_back.proofs.ClosedFronts.{sort_low}
-use Rattle.alg_reading_back.proofs.DividesBack.{plain_divides, fields_divide}
+use Rattle.alg_typing.proofs.SortLaws.{plain_divides}
+use Rattle.alg_reading_back.proofs.DividesBack.{fields_divide}
 use Rattle.alg_reading_back.proofs.EquationsBack.{IsEquationBack, equation_back}
 use Rattle.alg_reading_back.proofs.FrontNames.{front_distinct}
 use Rattle.alg_reading_back.proofs.Fronts.{front, grows, next}
-use Rattle.alg_reading_back.proofs.LaidMethods.{method_pieces, method_raw}
-use Rattle.alg_reading_back.proofs.LaidStatements.{laid_goal, laid_sides, goal_front, dot}
-use Rattle.alg_reading_back.proofs.LaidTerms.{space, word}
+use Rattle.alg_reading_back.proofs.WrittenMethods.{method_pieces, method_raw}
+use Rattle.alg_reading_back.proofs.WrittenStatements.{written_goal, written_sides, goal_front, dot}
+use Rattle.alg_reading_back.proofs.WrittenTerms.{space, word}
 use Rattle.alg_reading_back.proofs.MethodsBack.{IsMethodBack, method_back, may_divide_back}
 use Rattle.alg_reading_back.proofs.NamesTaken.{two_empty}
 use Rattle.alg_reading_back.proofs.NextLists.{same_lists, same_list, next_item}
-use Rattle.alg_reading_back.proofs.Placed.{Placed, placed_left, placed_right}
-use Rattle.alg_reading_back.proofs.SortRules.{Divides}
+use Rattle.alg_reading_back.proofs.PiecesAt.{PiecesAt, pieces_at_left, pieces_at_right}
+use Rattle.alg_typing.proofs.SortsClear.{Divides}
 use Rattle.alg_reading_back.proofs.Taken.{IsTaken}
 use Rattle.alg_reading_back.proofs.UsedBefore.{AreInRange, equation_low, homs_low, hyps_low}
 use Rattle.alg_reading_back.proofs.UsesBack.{IsUseInRange, uses_in_range}
@@ -124,21 +125,21 @@ module _ (file : File) (valid : IsValid file) (before after : List Statement) (i
       (same_list (λ s. (declared_by s).hyps) file.hyps before s refl)
       (ap (λ x. g.goals ++ x ∷ []) same ∙ item.items) (ap (λ n. before ++ statement.Goal n ∷ []) item.counted)
 
-  pub goal_taken : (text : List ℕ) (at : ℕ) → Placed text at (laid_goal file goal).pieces →
-      IsTaken g text ((laid_goal file goal).raw at) (front file (before ++ statement.Goal i ∷ []))
+  pub goal_taken : (text : List ℕ) (at : ℕ) → PiecesAt text at (written_goal file goal).pieces →
+      IsTaken g text ((written_goal file goal).raw at) (front file (before ++ statement.Goal i ∷ []))
   goal_taken text at placed =
       let distinct = front_distinct file valid before in
       let m = goal.method in
       let first = word words.Goal ∷ space ∷ [] in
-      let sides = laid_sides file first false e in
+      let sides = written_sides file first false e in
       let by = goal_front file e in
       let (left, right) = sides_divide m rules.method in
       let equation = equation_back file g text distinct (grows file before) (may_divide m) e rules.equation range
       left right false first (space ∷ word words.By ∷ space ∷ []) at
-      (placed_left text at by (method_pieces file m ++ dot) placed) in
+      (pieces_at_left text at by (method_pieces file m ++ dot) placed) in
       let method_at = at + width by in
-      let there = placed_left text method_at (method_pieces file m) dot
-      (placed_right text at by (method_pieces file m ++ dot) placed) in
+      let there = pieces_at_left text method_at (method_pieces file m) dot
+      (pieces_at_right text at by (method_pieces file m ++ dot) placed) in
       let method = method_back file g text distinct (grows file before) e m method_at method_at rules.method sort_is_low
       uses_range closed there in
       let raw_method = method_raw file method_at m in

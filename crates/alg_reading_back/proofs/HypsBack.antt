@@ -15,16 +15,16 @@ use Rattle.alg_tokens.specs.Laws.{width}
 use Rattle.alg_reader.specs.WellRead.{bytes_at}
 use Rattle.alg_typing.specs.NameFaults.{new_name, equation_names}
 use Rattle.alg_typing.specs.Resolved.{equation_of}
-use Rattle.alg_reading_back.proofs.DividesBack.{plain_divides}
+use Rattle.alg_typing.proofs.SortLaws.{plain_divides}
 use Rattle.alg_reading_back.proofs.EquationsBack.{equation_back}
 use Rattle.alg_reading_back.proofs.Fresh.{fresh_hyp}
 use Rattle.alg_reading_back.proofs.FrontNames.{front_distinct}
 use Rattle.alg_reading_back.proofs.Fronts.{front, grows, next}
-use Rattle.alg_reading_back.proofs.LaidStatements.{laid_hyp, laid_sides, dot, relation_sign}
-use Rattle.alg_reading_back.proofs.LaidTerms.{laid, space, sign, word, name, span}
+use Rattle.alg_reading_back.proofs.WrittenStatements.{written_hyp, written_sides, dot, relation_sign}
+use Rattle.alg_reading_back.proofs.WrittenTerms.{written, space, sign, word, name, span}
 use Rattle.alg_reading_back.proofs.NamesTaken.{new_taken, two_empty}
 use Rattle.alg_reading_back.proofs.NextLists.{same_lists, same_list, next_item}
-use Rattle.alg_reading_back.proofs.Placed.{Placed, placed_left, placed_right, span_bytes}
+use Rattle.alg_reading_back.proofs.PiecesAt.{PiecesAt, pieces_at_left, pieces_at_right, span_bytes}
 use Rattle.alg_reading_back.proofs.Taken.{IsTaken}
 use Rattle.alg_reading_back.proofs.UsedBefore.{equation_low}
 
@@ -57,8 +57,8 @@ module _ (file : File) (valid : IsValid file) (before after : List Statement) (h
       (same_list (λ s. (declared_by s).goals) file.goals before s refl)
       (ap (λ n. before ++ statement.Hyp n ∷ []) item.counted)
 
-  pub hyp_taken : (text : List ℕ) (at : ℕ) → Placed text at (laid_hyp file hyp).pieces →
-      IsTaken g text ((laid_hyp file hyp).raw at) (front file (before ++ statement.Hyp h ∷ []))
+  pub hyp_taken : (text : List ℕ) (at : ℕ) → PiecesAt text at (written_hyp file hyp).pieces →
+      IsTaken g text ((written_hyp file hyp).raw at) (front file (before ++ statement.Hyp h ∷ []))
   hyp_taken text at placed =
       let s = statement.Hyp h in
       let e = hyp.equation in
@@ -71,12 +71,12 @@ module _ (file : File) (valid : IsValid file) (before after : List Statement) (h
       let word_pieces = word words.Hyp ∷ space ∷ [] in
       let colon = space ∷ sign signs.Colon ∷ space ∷ [] in
       let first = word_pieces ++ (name hyp.name ∷ colon) in
-      let sides = laid_sides file first hyp.nonzero e in
+      let sides = written_sides file first hyp.nonzero e in
       let relation = sign (relation_sign hyp.nonzero) ∷ space ∷ [] in
-      let left = (laid file e.left).pieces ++ (space ∷ []) in
-      let to_left = placed_left text at first left (placed_left text at (first ++ left) relation
-      (placed_left text at sides.to_right (sides.right ++ dot) placed)) in
-      let named = placed_right text at word_pieces (name hyp.name ∷ colon) to_left in
+      let left = (written file e.left).pieces ++ (space ∷ []) in
+      let to_left = pieces_at_left text at first left (pieces_at_left text at (first ++ left) relation
+      (pieces_at_left text at sides.to_right (sides.right ++ dot) placed)) in
+      let named = pieces_at_right text at word_pieces (name hyp.name ∷ colon) to_left in
       let own = span (at + width word_pieces) hyp.name in
       let bytes : bytes_at text own ≡ hyp.name = span_bytes text (at + width word_pieces) kinds.Name hyp.name colon
       named in

@@ -30,11 +30,10 @@ use Rattle.alg_typing.specs.TermSorts.{is_ring, is_no_field}
 use Rattle.alg_typing.proofs.FreshNames.{AreDistinct}
 use Rattle.alg_typing.proofs.Growing.{Grows, kind_same}
 use Rattle.alg_reading_back.proofs.Closed.{IsClosed}
-use Rattle.alg_reading_back.proofs.LaidMethods.{use_pieces, use_raw, later_uses, uses_pieces, uses_raw, option_pieces, method_pieces, method_raw}
+use Rattle.alg_reading_back.proofs.WrittenMethods.{use_pieces, use_raw, later_uses, uses_pieces, uses_raw, option_pieces, method_pieces, method_raw}
 use Rattle.alg_reading_back.proofs.NamesTaken.{two_empty}
-use Rattle.alg_reading_back.proofs.Placed.{Placed, placed_left, placed_right}
-use Rattle.alg_reading_back.proofs.ClearNodes.{no_cause}
-use Rattle.alg_reading_back.proofs.SortRules.{field_passes}
+use Rattle.alg_reading_back.proofs.PiecesAt.{PiecesAt, pieces_at_left, pieces_at_right}
+use Rattle.alg_typing.proofs.SortsClear.{field_passes, no_cause}
 use Rattle.alg_reading_back.proofs.UsesBack.{IsUseInRange, use_back, use_clear}
 
 -- a domain is no mere ring by the test
@@ -68,35 +67,37 @@ module _ (file g : File) (text : List ℕ) where
   may_divide_back at (ByNsatz uses power limit) = refl
 
   -- each use's pieces stand where its raw use begins
-  abbrev pub ArePlaced : ℕ → List Use → Type 0
-  ArePlaced at [] = Unit {0}
-  ArePlaced at (used ∷ uses) =
-      Placed text at (use_pieces file used) × ArePlaced (at + width (use_pieces file used) + 2) uses
+  abbrev pub UsesAt : ℕ → List Use → Type 0
+  UsesAt at [] = Unit {0}
+  UsesAt at (used ∷ uses) =
+      PiecesAt text at (use_pieces file used) × UsesAt (at + width (use_pieces file used) + 2) uses
 
-  later_placed : (at : ℕ) (uses : List Use) → Placed text at (later_uses file uses) → ArePlaced (at + 2) uses
-  later_placed at [] placed = tt
-  later_placed at (used ∷ uses) placed =
+  later_uses_at : (at : ℕ) (uses : List Use) → PiecesAt text at (later_uses file uses) → UsesAt (at + 2) uses
+  later_uses_at at [] placed = tt
+  later_uses_at at (used ∷ uses) placed =
       let pieces = use_pieces file used in
       let place : (at + 1) + 1 ≡ at + 2 = omega arith in
-      let there = subst (λ k. Placed text k (pieces ++ later_uses file uses)) place placed.1.1 in (
-        placed_left text (at + 2) pieces (later_uses file uses) there,
-        later_placed ((at + 2) + width pieces) uses (placed_right text (at + 2) pieces (later_uses file uses) there),
+      let there = subst (λ k. PiecesAt text k (pieces ++ later_uses file uses)) place placed.1.1 in (
+        pieces_at_left text (at + 2) pieces (later_uses file uses) there,
+        later_uses_at ((at + 2) + width pieces) uses (pieces_at_right text (at + 2) pieces
+            (later_uses file uses) there),
       )
 
   -- all of them, behind ` using `
-  pub uses_placed : (at : ℕ) (uses : List Use) → Placed text at (uses_pieces file uses) → ArePlaced (at + 7) uses
-  uses_placed at [] placed = tt
-  uses_placed at (used ∷ uses) placed =
+  pub uses_at : (at : ℕ) (uses : List Use) → PiecesAt text at (uses_pieces file uses) → UsesAt (at + 7) uses
+  uses_at at [] placed = tt
+  uses_at at (used ∷ uses) placed =
       let pieces = use_pieces file used in
       let place : ((at + 1) + 5) + 1 ≡ at + 7 = omega arith in
-      let there = subst (λ k. Placed text k (pieces ++ later_uses file uses)) place placed.1.1.1 in (
-        placed_left text (at + 7) pieces (later_uses file uses) there,
-        later_placed ((at + 7) + width pieces) uses (placed_right text (at + 7) pieces (later_uses file uses) there),
+      let there = subst (λ k. PiecesAt text k (pieces ++ later_uses file uses)) place placed.1.1.1 in (
+        pieces_at_left text (at + 7) pieces (later_uses file uses) there,
+        later_uses_at ((at + 7) + width pieces) uses (pieces_at_right text (at + 7) pieces
+            (later_uses file uses) there),
       )
 
 module _ (file g : File) (text : List ℕ) (distinct : AreDistinct (names_of g)) (grows : Grows g file) where
   -- uses of the front come back where their pieces stand
-  pub uses_back : (uses : List Use) (at : ℕ) → AllByRecursion (IsUseInRange g) uses → ArePlaced file g text at uses →
+  pub uses_back : (uses : List Use) (at : ℕ) → AllByRecursion (IsUseInRange g) uses → UsesAt file g text at uses →
       AreUsesBack g text uses (uses_raw file at uses)
   uses_back [] at range placed = record { back = refl; names = refl }
   uses_back (used ∷ uses) at range placed =
@@ -111,7 +112,7 @@ module _ (file g : File) (text : List ℕ) (distinct : AreDistinct (names_of g))
 
   -- those of a goal of a sort have no faults of sorts
   pub uses_clear : (s : ℕ) (uses : List Use) (at : ℕ) → IsClosed g → AllByRecursion (IsUseInRange g) uses →
-      AllByRecursion (IsUse file s) uses → ArePlaced file g text at uses →
+      AllByRecursion (IsUse file s) uses → UsesAt file g text at uses →
       flat_map (use_sorts g text (Some s)) (uses_raw file at uses) ≡ []
   uses_clear s [] at closed range are placed = refl
   uses_clear s (used ∷ uses) at closed range are placed =
@@ -122,7 +123,7 @@ module _ (file g : File) (text : List ℕ) (distinct : AreDistinct (names_of g))
 
   -- a method that its equation may have comes back where its pieces stand
   pub method_back : (e : Equation) (m : Method) (method_at at : ℕ) → MayBeBy file e m → e.sort < length g.sorts →
-      All (IsUseInRange g) (uses_of m) → IsClosed g → Placed text at (method_pieces file m) →
+      All (IsUseInRange g) (uses_of m) → IsClosed g → PiecesAt text at (method_pieces file m) →
       IsMethodBack g text e.sort method_at m (method_raw file at m)
   method_back e ByRing method_at at may low range closed placed = record { back = refl; names = refl; sorts = refl }
   method_back e ByField method_at at may low range closed placed =
@@ -134,8 +135,8 @@ module _ (file g : File) (text : List ℕ) (distinct : AreDistinct (names_of g))
         sorts = no_cause (is_no_field g text (Some e.sort)) code.NotField method_at (ap not field);
       }
   method_back e (ByNsatz uses power limit) method_at at may low range closed placed =
-      let there = placed_left text (at + 5) (uses_pieces file uses) (option_pieces power limit) placed.1 in
-      let each = uses_placed file g text (at + 5) uses there in
+      let there = pieces_at_left text (at + 5) (uses_pieces file uses) (option_pieces power limit) placed.1 in
+      let each = uses_at file g text (at + 5) uses there in
       let in_range = recursion_from_All (IsUseInRange g) uses range in
       let are = recursion_from_All (IsUse file e.sort) uses may.each_use in
       let raws = uses_raw file (at + 5 + 7) uses in

@@ -21,9 +21,9 @@ use Rattle.alg_reader.specs.Tokens.{unread_today, stop_code}
 use Rattle.alg_printer.specs.Names.{sort_name, var_name}
 use Rattle.alg_printer.specs.Text.{IsStatementOf}
 use Rattle.alg_reading_back.specs.ReadingBack.{IsReadToday}
-use Rattle.alg_reading_back.proofs.LaidMethods.{method_pieces}
-use Rattle.alg_reading_back.proofs.LaidTerms.{laid, space, sign, word, name}
-use Rattle.alg_reading_back.proofs.LaidStatements.{laid_sort, laid_hom, laid_vars, goal_front, laid_goal, laid_statement, name_pieces, dot}
+use Rattle.alg_reading_back.proofs.WrittenMethods.{method_pieces}
+use Rattle.alg_reading_back.proofs.WrittenTerms.{written, space, sign, word, name}
+use Rattle.alg_reading_back.proofs.WrittenStatements.{written_sort, written_hom, written_vars, goal_front, written_goal, written_statement, name_pieces, dot}
 use Rattle.alg_reading_back.proofs.OpenBytes.{NoParens, no_parens, Passes}
 use Rattle.alg_reading_back.proofs.PlainNames.{HasPlainNames, decimal_plain}
 use Rattle.alg_reading_back.proofs.PlainPieces.{Wordless, wordless_append, space_plain, term_wordless}
@@ -49,7 +49,7 @@ dot_passes last = (refl, tt, tt)
 
 -- sorts and morphisms
 sort_passes : (kind : Kind) (bytes : List ℕ) (char0 : Bool) → NoParens bytes →
-    Passes None (laid_sort (record { name = bytes; kind = kind; char0 = char0 })).pieces
+    Passes None (written_sort (record { name = bytes; kind = kind; char0 = char0 })).pieces
 sort_passes Ring bytes true plain = (
   no_parens (codes "ring") refl,
   (λ d. refl),
@@ -97,7 +97,7 @@ sort_passes Field bytes false plain =
     (no_parens (codes "field") refl, (λ d. refl), (space_plain, (plain, tt, (refl, tt, tt))))
 
 hom_passes : (file : File) (hom : HomDecl) → NoParens hom.name → NoParens (sort_name file hom.from) →
-    NoParens (sort_name file hom.to) → Passes None (laid_hom file hom).pieces
+    NoParens (sort_name file hom.to) → Passes None (written_hom file hom).pieces
 hom_passes file hom plain from to = (
   no_parens (codes "hom") refl,
   (λ d. refl),
@@ -131,7 +131,8 @@ names_plain : (file : File) → HasPlainNames file → (numbers : List ℕ) →
 names_plain file plain [] = tt
 names_plain file plain (k ∷ numbers) = (plain.vars k, names_plain file plain numbers)
 
-vars_passes : (file : File) → HasPlainNames file → (first count : ℕ) → Passes None (laid_vars file first count).pieces
+vars_passes : (file : File) → HasPlainNames file → (first count : ℕ) →
+    Passes None (written_vars file first count).pieces
 vars_passes file plain first count =
     let names = map (var_name file) (numbers_from first count) in
     let colon = space ∷ sign signs.Colon ∷ space ∷ [] in
@@ -169,8 +170,8 @@ goal_fronts first second middle r end last =
 ring_passes : (file : File) → HasPlainNames file → (e : Equation) →
     Passes None (goal_front file e ++ (word words.Ring ∷ dot))
 ring_passes file plain e =
-    let l = (laid file e.left).pieces in
-    let r = (laid file e.right).pieces in
+    let l = (written file e.left).pieces in
+    let r = (written file e.right).pieces in
     let equal = l ++ (space ∷ []) in
     let middle = equal ++ (sign signs.Equal ∷ space ∷ []) in
     let left = wordless_append equal (sign signs.Equal ∷ space ∷ [])
@@ -196,14 +197,14 @@ ring_passes file plain e =
     )
 
 goal_passes : (file : File) → HasPlainNames file → (goal : Goal) → goal.method ≡ ByRing →
-    Passes None (laid_goal file goal).pieces
+    Passes None (written_goal file goal).pieces
 goal_passes file plain goal by_ring =
     subst (λ m. Passes None (goal_front file goal.equation ++ (method_pieces file m ++ dot))) (sym by_ring)
     (ring_passes file plain goal.equation)
 
 -- of each statement that can be read today
 pub statement_passes : (file : File) → HasPlainNames file → IsReadToday file → (s : Statement) →
-    IsStatementOf file s → Passes None (laid_statement file s).pieces
+    IsStatementOf file s → Passes None (written_statement file s).pieces
 statement_passes file plain today (statement.Sort s) is =
     sort_passes (sort_at file s).kind (sort_at file s).name (sort_at file s).char0 (plain.sorts s)
 statement_passes file plain today (statement.Hom f) is =

@@ -8,7 +8,7 @@ use Rattle.alg_tokens.specs.declared.token.Sign.{Sign}
 use Rattle.alg_tokens.specs.declared.token.Sign.TheVariants as signs
 use Rattle.alg_tokens.specs.declared.token.TokenKind.TheVariants as kinds
 use Rattle.alg_tokens.specs.Pieces.{Piece, Blank, Lexeme}
-use Rattle.alg_reading_back.proofs.LaidTerms.{Laid, laid, space, sign, numeral, in_parentheses, part_pieces}
+use Rattle.alg_reading_back.proofs.WrittenTerms.{WrittenTerm, written, space, sign, numeral, in_parentheses, part_pieces}
 use Rattle.alg_reading_back.proofs.OpenBytes.{NoParens, no_parens, IsEven}
 use Rattle.alg_reading_back.proofs.PlainNames.{HasPlainNames, decimal_plain, integer_plain}
 
@@ -39,40 +39,44 @@ inside_wordless : (pieces : List Piece) → Wordless pieces → Wordless (in_par
 -- pieces in parentheses, parts and chains
 inside_wordless pieces h = (refl, wordless_append pieces (sign signs.ParenRight ∷ []) h (refl, tt))
 
-part_wordless : (wanted : ℕ) (part : Laid) → Wordless part.pieces → Wordless (part_pieces wanted part)
+part_wordless : (wanted : ℕ) (part : WrittenTerm) → Wordless part.pieces → Wordless (part_pieces wanted part)
 part_wordless wanted part h =
     elim (nat_lt part.level wanted) as (λ b. Wordless (cond b (in_parentheses part.pieces) part.pieces)) [
       | true ↦ inside_wordless part.pieces h
       | false ↦ h
     ]
 
-spaced_wordless : (op : Sign) (left right : Laid) → Wordless left.pieces → Wordless right.pieces →
+spaced_wordless : (op : Sign) (left right : WrittenTerm) → Wordless left.pieces → Wordless right.pieces →
     Wordless (part_pieces 1 left ++ (space ∷ sign op ∷ space ∷ part_pieces 2 right))
 spaced_wordless op left right h k = wordless_append (part_pieces 1 left) _ (part_wordless 1 left h)
     (space_plain, (refl, (space_plain, part_wordless 2 right k)))
 
-tight_wordless : (op : Sign) (left right : Laid) → Wordless left.pieces → Wordless right.pieces →
+tight_wordless : (op : Sign) (left right : WrittenTerm) → Wordless left.pieces → Wordless right.pieces →
     Wordless (part_pieces 2 left ++ (sign op ∷ part_pieces 3 right))
 tight_wordless op left right h k =
     wordless_append (part_pieces 2 left) _ (part_wordless 2 left h) (refl, part_wordless 3 right k)
 
 -- each term
-pub term_wordless : (file : File) → HasPlainNames file → (t : Term) → Wordless (laid file t).pieces
+pub term_wordless : (file : File) → HasPlainNames file → (t : Term) → Wordless (written file t).pieces
 unfolding fold_term
 term_wordless file plain (Var k) = (plain.vars k, tt)
 term_wordless file plain (Int n) = (integer_plain n, tt)
 term_wordless file plain (Neg' p (more_of-Term t r)) =
-    (refl, part_wordless 3 (laid file t) (term_wordless file plain t))
+    (refl, part_wordless 3 (written file t) (term_wordless file plain t))
 term_wordless file plain (Add' p (more_of-Term t r) q (more_of-Term u s)) =
-    spaced_wordless signs.Plus (laid file t) (laid file u) (term_wordless file plain t) (term_wordless file plain u)
+    spaced_wordless signs.Plus (written file t) (written file u) (term_wordless file plain t)
+    (term_wordless file plain u)
 term_wordless file plain (Sub' p (more_of-Term t r) q (more_of-Term u s)) =
-    spaced_wordless signs.Minus (laid file t) (laid file u) (term_wordless file plain t) (term_wordless file plain u)
+    spaced_wordless signs.Minus (written file t) (written file u) (term_wordless file plain t)
+    (term_wordless file plain u)
 term_wordless file plain (Mul' p (more_of-Term t r) q (more_of-Term u s)) =
-    tight_wordless signs.Star (laid file t) (laid file u) (term_wordless file plain t) (term_wordless file plain u)
+    tight_wordless signs.Star (written file t) (written file u) (term_wordless file plain t)
+    (term_wordless file plain u)
 term_wordless file plain (Div' p (more_of-Term t r) q (more_of-Term u s)) =
-    tight_wordless signs.Slash (laid file t) (laid file u) (term_wordless file plain t) (term_wordless file plain u)
+    tight_wordless signs.Slash (written file t) (written file u) (term_wordless file plain t)
+    (term_wordless file plain u)
 term_wordless file plain (Pow' p (more_of-Term t r) n) =
-    wordless_append (part_pieces 5 (laid file t)) (sign signs.Caret ∷ numeral n ∷ [])
-    (part_wordless 5 (laid file t) (term_wordless file plain t)) (refl, (decimal_plain n, tt))
+    wordless_append (part_pieces 5 (written file t)) (sign signs.Caret ∷ numeral n ∷ [])
+    (part_wordless 5 (written file t) (term_wordless file plain t)) (refl, (decimal_plain n, tt))
 term_wordless file plain (Hom' f p (more_of-Term t r)) =
-    (plain.homs f, inside_wordless (laid file t).pieces (term_wordless file plain t))
+    (plain.homs f, inside_wordless (written file t).pieces (term_wordless file plain t))

@@ -16,13 +16,13 @@ use Rattle.alg_reading_back.proofs.ClosedFronts.{IsClosedBy, nothing_closed, clo
 use Rattle.alg_reading_back.proofs.FilesBack.{text, pieces_of, begin, place, raw_of, few_there, taken_there, passed_by_all, next_place, faultless, whole_front, empty_front}
 use Rattle.alg_reading_back.proofs.FileTokens.{statement_of, statement_tokens, text_ends}
 use Rattle.alg_reading_back.proofs.Fronts.{front}
-use Rattle.alg_reading_back.proofs.LaidStatements.{laid_statement}
+use Rattle.alg_reading_back.proofs.WrittenStatements.{written_statement}
 use Rattle.alg_reading_back.proofs.SpelledStatements.{spelled_statement}
 use Rattle.alg_reading_back.proofs.StatementsRead.{statement_passed, statement_read}
 use Rattle.alg_reading_back.proofs.Utf8Text.{text_utf8}
 
 -- a statement's raw statement is no end
-goes_on : (file : File) (s : Statement) (at : ℕ) → (laid_statement file s).raw at ≢ raws.End
+goes_on : (file : File) (s : Statement) (at : ℕ) → (written_statement file s).raw at ≢ raws.End
 goes_on file (statement.Sort k) at = λ e. absurd (cc)
 goes_on file (statement.Hom f) at = λ e. absurd (cc)
 goes_on file (statement.Vars first count) at = λ e. absurd (cc)

@@ -12,14 +12,14 @@ use Rattle.alg_reader.proofs.Built.{fold_raw-Var, fold_raw-Int, fold_raw-Neg, fo
 use Rattle.alg_reader.proofs.Depths.{depth_agrees}
 use Rattle.alg_reader.proofs.Held.{kept_whole}
 use Rattle.alg_printer.specs.Names.{var_name, hom_name}
-use Rattle.alg_reading_back.proofs.LaidTerms.{Laid, laid, part_raw, span}
+use Rattle.alg_reading_back.proofs.WrittenTerms.{WrittenTerm, written, part_raw, span}
 
 -- so deep, and nothing too deep
 abbrev pub shallow : ℕ → Depths
 shallow depth = record { depth = depth; too_deep = None }
 
 -- wherever it begins, the raw term is so deep and has nothing too deep
-abbrev pub IsShallow : Laid → ℕ → Type 0
+abbrev pub IsShallow : WrittenTerm → ℕ → Type 0
 IsShallow part depth = (at : ℕ) → fold_raw node_depths (part.raw at) ≡ shallow depth
 
 -- a node that is not too deep
@@ -29,7 +29,7 @@ not_over head depth low =
     ap (λ b. record { depth = depth; too_deep = option_or None (cond b (Some head) None) }) few
 
 -- a part, in parentheses or not
-part_shallow : (wanted : ℕ) (part : Laid) (depth : ℕ) → IsShallow part depth → (at : ℕ) →
+part_shallow : (wanted : ℕ) (part : WrittenTerm) (depth : ℕ) → IsShallow part depth → (at : ℕ) →
     fold_raw node_depths (part_raw wanted part at) ≡ shallow depth
 part_shallow wanted part depth h at =
     elim (nat_lt part.level wanted) as (λ b. fold_raw node_depths (cond b (part.raw (at + 1)) (part.raw at))
@@ -46,52 +46,52 @@ two_shallow head depth other d e low f g =
     ap (λ x. over_two head x e) f ∙ ap (over_two head (shallow depth)) g ∙ not_over head (1 + max depth other) low
 
 -- of each term that is not too deep
-pub term_shallow : (file : File) (t : Term) → terms.depth_of t ≤ 1000 → IsShallow (laid file t) (terms.depth_of t)
+pub term_shallow : (file : File) (t : Term) → terms.depth_of t ≤ 1000 → IsShallow (written file t) (terms.depth_of t)
 unfolding fold_term
 term_shallow file (Var k) low at =
     fold_raw-Var node_depths at (span at (var_name file k)) ∙ not_over at 1 (omega arith)
 term_shallow file (Int n) low at = fold_raw-Int node_depths at n ∙ not_over at 1 (omega arith)
 term_shallow file (Neg' p (more_of-Term t r)) low at =
-    fold_raw-Neg node_depths at (part_raw 3 (laid file t) (at + 1))
+    fold_raw-Neg node_depths at (part_raw 3 (written file t) (at + 1))
     ∙ one_shallow at (terms.depth_of t) _ low
-    (part_shallow 3 (laid file t) (terms.depth_of t) (term_shallow file t (omega arith)) (at + 1))
+    (part_shallow 3 (written file t) (terms.depth_of t) (term_shallow file t (omega arith)) (at + 1))
 term_shallow file (Add' p (more_of-Term t r) q (more_of-Term u s)) low at =
     fold_raw-Add node_depths _ _ _
     ∙ two_shallow _ (terms.depth_of t) (terms.depth_of u) _ _ low
-    (part_shallow 1 (laid file t) (terms.depth_of t) (term_shallow file t (omega arith)) _)
-    (part_shallow 2 (laid file u) (terms.depth_of u) (term_shallow file u (omega arith)) _)
+    (part_shallow 1 (written file t) (terms.depth_of t) (term_shallow file t (omega arith)) _)
+    (part_shallow 2 (written file u) (terms.depth_of u) (term_shallow file u (omega arith)) _)
 term_shallow file (Sub' p (more_of-Term t r) q (more_of-Term u s)) low at =
     fold_raw-Sub node_depths _ _ _
     ∙ two_shallow _ (terms.depth_of t) (terms.depth_of u) _ _ low
-    (part_shallow 1 (laid file t) (terms.depth_of t) (term_shallow file t (omega arith)) _)
-    (part_shallow 2 (laid file u) (terms.depth_of u) (term_shallow file u (omega arith)) _)
+    (part_shallow 1 (written file t) (terms.depth_of t) (term_shallow file t (omega arith)) _)
+    (part_shallow 2 (written file u) (terms.depth_of u) (term_shallow file u (omega arith)) _)
 term_shallow file (Mul' p (more_of-Term t r) q (more_of-Term u s)) low at =
     fold_raw-Mul node_depths _ _ _
     ∙ two_shallow _ (terms.depth_of t) (terms.depth_of u) _ _ low
-    (part_shallow 2 (laid file t) (terms.depth_of t) (term_shallow file t (omega arith)) _)
-    (part_shallow 3 (laid file u) (terms.depth_of u) (term_shallow file u (omega arith)) _)
+    (part_shallow 2 (written file t) (terms.depth_of t) (term_shallow file t (omega arith)) _)
+    (part_shallow 3 (written file u) (terms.depth_of u) (term_shallow file u (omega arith)) _)
 term_shallow file (Div' p (more_of-Term t r) q (more_of-Term u s)) low at =
     fold_raw-Div node_depths _ _ _
     ∙ two_shallow _ (terms.depth_of t) (terms.depth_of u) _ _ low
-    (part_shallow 2 (laid file t) (terms.depth_of t) (term_shallow file t (omega arith)) _)
-    (part_shallow 3 (laid file u) (terms.depth_of u) (term_shallow file u (omega arith)) _)
+    (part_shallow 2 (written file t) (terms.depth_of t) (term_shallow file t (omega arith)) _)
+    (part_shallow 3 (written file u) (terms.depth_of u) (term_shallow file u (omega arith)) _)
 term_shallow file (Pow' p (more_of-Term t r) n) low at =
     fold_raw-Pow node_depths _ _ _
     ∙ one_shallow _ (terms.depth_of t) _ low
-    (part_shallow 5 (laid file t) (terms.depth_of t) (term_shallow file t (omega arith)) at)
+    (part_shallow 5 (written file t) (terms.depth_of t) (term_shallow file t (omega arith)) at)
 term_shallow file (Hom' f p (more_of-Term t r)) low at =
     fold_raw-Hom node_depths _ _ _
     ∙ one_shallow at (terms.depth_of t) _ low (term_shallow file t (omega arith) (at + length (hom_name file f) + 1))
 
 -- all of such a term is kept, and nothing in it is too deep
 pub term_kept : (file : File) (t : Term) → terms.depth_of t ≤ 1000 → (at : ℕ) →
-    kept ((laid file t).raw at) ≡ (laid file t).raw at
+    kept ((written file t).raw at) ≡ (written file t).raw at
 term_kept file t low at =
-    let u = (laid file t).raw at in
+    let u = (written file t).raw at in
     let deep : depth_of u ≡ terms.depth_of t =
     sym (depth_agrees u) ∙ ap (λ d. d.depth) (term_shallow file t low at) in
     kept_whole u (omega arith)
 
 pub term_not_deep : (file : File) (t : Term) → terms.depth_of t ≤ 1000 → (at : ℕ) →
-    first_too_deep ((laid file t).raw at) ≡ None
+    first_too_deep ((written file t).raw at) ≡ None
 term_not_deep file t low at = ap (λ d. d.too_deep) (term_shallow file t low at)

@@ -8,7 +8,7 @@ use Rattle.alg_tokens.specs.Pieces.{Piece}
 use Rattle.alg_tokens.proofs.Neighbours.{spell, spell_append}
 use Rattle.alg_printer.specs.Names.{hom_name, under, listed}
 use Rattle.alg_printer.specs.Statements.{use_text, uses_text, method_text}
-use Rattle.alg_reading_back.proofs.LaidMethods.{hyp_name, path_pieces, use_pieces, later_uses, uses_pieces, option_pieces, method_pieces}
+use Rattle.alg_reading_back.proofs.WrittenMethods.{hyp_name, path_pieces, use_pieces, later_uses, uses_pieces, option_pieces, method_pieces}
 use Rattle.alg_reading_back.proofs.SpelledTerms.{spelled_parentheses}
 
 -- ---- uses

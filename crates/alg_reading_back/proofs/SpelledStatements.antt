@@ -29,9 +29,9 @@ use Rattle.alg_printer.specs.Answers.{optional_text}
 use Rattle.alg_printer.specs.Text.{text_of, statement_text, answer_at, IsStatementOf}
 use Rattle.alg_printer.proofs.Declared.{statements_are_of}
 use Rattle.alg_reading_back.specs.ReadingBack.{unanswered}
-use Rattle.alg_reading_back.proofs.LaidTerms.{laid, space, line_feed, sign, word, name}
-use Rattle.alg_reading_back.proofs.LaidMethods.{method_pieces}
-use Rattle.alg_reading_back.proofs.LaidStatements.{laid_sort, laid_hom, laid_vars, laid_sides, laid_hyp, laid_goal, laid_statement, goal_front, relation_sign, name_pieces, char_pieces, kind_word, dot, file_pieces}
+use Rattle.alg_reading_back.proofs.WrittenTerms.{written, space, line_feed, sign, word, name}
+use Rattle.alg_reading_back.proofs.WrittenMethods.{method_pieces}
+use Rattle.alg_reading_back.proofs.WrittenStatements.{written_sort, written_hom, written_vars, written_sides, written_hyp, written_goal, written_statement, goal_front, relation_sign, name_pieces, char_pieces, kind_word, dot, file_pieces}
 use Rattle.alg_reading_back.proofs.SpelledMethods.{spelled_method}
 use Rattle.alg_reading_back.proofs.SpelledTerms.{spelled_term}
 
@@ -63,7 +63,7 @@ named_sort Ring bytes char0 = ap (λ bs. codes "ring " ++ bs) (named_char bytes 
 named_sort Domain bytes char0 = ap (λ bs. codes "domain " ++ bs) (named_char bytes char0)
 named_sort Field bytes char0 = ap (λ bs. codes "field " ++ bs) (named_char bytes char0)
 
-spelled_sort : (sort : Sort) → spell (line_pieces (laid_sort sort).pieces) ≡ sort_text sort
+spelled_sort : (sort : Sort) → spell (line_pieces (written_sort sort).pieces) ≡ sort_text sort
 spelled_sort sort = named_sort sort.kind sort.name sort.char0
 
 -- ---- morphisms
@@ -72,7 +72,7 @@ seven : (a b c d e f g : List ℕ) →
     a ++ (b ++ (c ++ (d ++ (e ++ (f ++ g))))) ≡ (((((a ++ b) ++ c) ++ d) ++ e) ++ f) ++ g
 seven a b c d e f g = simp append_assoc refl
 
-spelled_hom : (file : File) (hom : HomDecl) → spell (line_pieces (laid_hom file hom).pieces) ≡ hom_text file hom
+spelled_hom : (file : File) (hom : HomDecl) → spell (line_pieces (written_hom file hom).pieces) ≡ hom_text file hom
 spelled_hom file hom = seven (codes "hom ") hom.name (codes " : ") (sort_name file hom.from) (codes " -> ")
     (sort_name file hom.to) (codes ".\n")
 
@@ -85,7 +85,7 @@ spelled_names file (k ∷ numbers) =
     ap (λ bs. codes " " ++ (var_name file k ++ bs)) (spelled_names file numbers)
 
 spelled_vars : (file : File) (first count : ℕ) →
-    spell (line_pieces (laid_vars file first count).pieces) ≡ vars_text file first count
+    spell (line_pieces (written_vars file first count).pieces) ≡ vars_text file first count
 spelled_vars file first count =
     let numbers = numbers_from first count in
     let names = name_pieces (map (var_name file) numbers) in
@@ -109,10 +109,10 @@ regrouped f l s r = simp append_assoc refl
 
 -- the pieces of an equation up to its right side
 spelled_left : (file : File) (front : List Piece) (nonzero : Bool) (e : Equation) →
-    spell (laid_sides file front nonzero e).to_right
+    spell (written_sides file front nonzero e).to_right
     ≡ (spell front ++ term_text file e.left) ++ relation_text nonzero
 spelled_left file front nonzero e =
-    let left = (laid file e.left).pieces in
+    let left = (written file e.left).pieces in
     let relation = sign (relation_sign nonzero) ∷ space ∷ [] in
     let l = term_text file e.left in
     spell_append (front ++ (left ++ (space ∷ []))) relation
@@ -128,11 +128,11 @@ hyp_sides : (h n c l s r d : List ℕ) →
     (((h ++ (n ++ c)) ++ l) ++ s) ++ (r ++ d) ≡ (((((h ++ n) ++ c) ++ l) ++ s) ++ r) ++ d
 hyp_sides h n c l s r d = simp append_assoc refl
 
-spelled_hyp : (file : File) (hyp : Hyp) → spell (line_pieces (laid_hyp file hyp).pieces) ≡ hyp_text file hyp
+spelled_hyp : (file : File) (hyp : Hyp) → spell (line_pieces (written_hyp file hyp).pieces) ≡ hyp_text file hyp
 spelled_hyp file hyp =
     let e = hyp.equation in
     let colon = word words.Hyp ∷ space ∷ name hyp.name ∷ space ∷ sign signs.Colon ∷ space ∷ [] in
-    let sides = laid_sides file colon hyp.nonzero e in
+    let sides = written_sides file colon hyp.nonzero e in
     let l = term_text file e.left in
     let r = term_text file e.right in
     line_of sides.to_right (sides.right ++ dot)
@@ -152,14 +152,14 @@ spelled_front : (file : File) (e : Equation) → spell (goal_front file e)
     ≡ ((codes "goal " ++ term_text file e.left) ++ codes " = ") ++ (term_text file e.right ++ codes " by ")
 spelled_front file e =
     let front = word words.Goal ∷ space ∷ [] in
-    let sides = laid_sides file front false e in
+    let sides = written_sides file front false e in
     let last = space ∷ word words.By ∷ space ∷ [] in
     spell_append sides.to_right (sides.right ++ last)
     ∙ ap (λ bs. bs ++ spell (sides.right ++ last)) (spelled_left file front false e)
     ∙ ap (λ bs. ((codes "goal " ++ term_text file e.left) ++ codes " = ") ++ bs) (spell_append sides.right last
     ∙ ap (λ bs. bs ++ codes " by ") (spelled_term file e.right))
 
-spelled_goal : (file : File) (goal : Goal) → spell (line_pieces (laid_goal file goal).pieces) ≡ goal_text file goal
+spelled_goal : (file : File) (goal : Goal) → spell (line_pieces (written_goal file goal).pieces) ≡ goal_text file goal
 spelled_goal file goal =
     let by = goal_front file goal.equation in
     let method = method_pieces file goal.method in
@@ -178,7 +178,7 @@ no_answer : (file : File) (i : ℕ) → answer_at (unanswered file) i ≡ None
 no_answer file i = let none : Goal → Option Answer = λ goal. None in get_or-map none file.goals i no_goal
 
 pub spelled_statement : (file : File) (s : Statement) → IsStatementOf file s →
-    spell (line_pieces (laid_statement file s).pieces) ≡ statement_text file (unanswered file) s
+    spell (line_pieces (written_statement file s).pieces) ≡ statement_text file (unanswered file) s
 spelled_statement file (statement.Sort s) of = spelled_sort (sort_at file s)
 spelled_statement file (statement.Hom f) of = spelled_hom file (hom_at file f)
 spelled_statement file (statement.Vars first count) of = spelled_vars file first count
@@ -192,7 +192,7 @@ spelled_statements : (file : File) (order : List Statement) → AllByRecursion (
     spell (file_pieces file order) ≡ flat_map (statement_text file (unanswered file)) order
 spelled_statements file [] all = refl
 spelled_statements file (s ∷ order) all =
-    spell_append (line_pieces (laid_statement file s).pieces) (file_pieces file order)
+    spell_append (line_pieces (written_statement file s).pieces) (file_pieces file order)
     ∙ ap (λ bs. bs ++ spell (file_pieces file order)) (spelled_statement file s all.0)
     ∙ ap (λ bs. statement_text file (unanswered file) s ++ bs) (spelled_statements file order all.1)
 

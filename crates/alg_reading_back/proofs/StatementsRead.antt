@@ -24,8 +24,8 @@ use Rattle.alg_reader.specs.Tokens.{Unread, unread_today, GoesPast, TokensTo}
 use Rattle.alg_reader.specs.TooDeep.{kept, kept_sides, kept_kind, first_too_deep, first_of_sides, first_of_statement}
 use Rattle.alg_printer.specs.Text.{statement_text, IsStatementOf}
 use Rattle.alg_reading_back.specs.ReadingBack.{unanswered, most_open, IsReadToday}
-use Rattle.alg_reading_back.proofs.LaidTerms.{line_feed, laid}
-use Rattle.alg_reading_back.proofs.LaidStatements.{laid_statement}
+use Rattle.alg_reading_back.proofs.WrittenTerms.{line_feed, written}
+use Rattle.alg_reading_back.proofs.WrittenStatements.{written_statement}
 use Rattle.alg_reading_back.proofs.DerivedStatements.{sort_derived, hom_derived}
 use Rattle.alg_reading_back.proofs.DerivedGoals.{vars_derived, goal_derived}
 use Rattle.alg_reading_back.proofs.DerivedHyps.{hyp_derived}
@@ -36,7 +36,7 @@ use Rattle.alg_reading_back.proofs.ShallowTerms.{term_kept, term_not_deep}
 
 -- the grammar derives it
 pub statement_derived : (file : File) → IsValid file → (s : Statement) → IsStatementOf file s → (at : ℕ) →
-    IsStatement Plain (tokens_of at (laid_statement file s).pieces) ((laid_statement file s).raw at)
+    IsStatement Plain (tokens_of at (written_statement file s).pieces) ((written_statement file s).raw at)
 statement_derived file valid (statement.Sort s) is at =
     sort_derived (sort_at file s) (valid.sorts s no_sort is) at
 statement_derived file valid (statement.Hom f) is at = hom_derived file (hom_at file f) at
@@ -57,7 +57,7 @@ none_deep e h k = ap (λ first. option_or first (first_too_deep e.right)) h ∙ 
 
 -- an equation of the file, by the places of its sides
 equation_kept : (file : File) (e : Equation) → IsEquation file e → (raw : RawEquation) (left_at right_at : ℕ) →
-    raw.left ≡ (laid file e.left).raw left_at → raw.right ≡ (laid file e.right).raw right_at →
+    raw.left ≡ (written file e.left).raw left_at → raw.right ≡ (written file e.right).raw right_at →
     (kept_sides raw ≡ raw) × (first_of_sides raw ≡ None)
 equation_kept file e is raw left_at right_at h k = (
   sides_kept raw (ap kept h ∙ term_kept file e.left is.left.depth left_at ∙ sym h)
@@ -80,7 +80,7 @@ goal_kept raw method method_at (whole, shallow) = (ap (λ sides. raws.Goal sides
 
 -- of each statement of a valid file
 pub statement_kept : (file : File) → IsValid file → (s : Statement) → IsStatementOf file s → (at : ℕ) →
-    IsKept ((laid_statement file s).raw at)
+    IsKept ((written_statement file s).raw at)
 statement_kept file valid (statement.Sort s) is at = (refl, refl)
 statement_kept file valid (statement.Hom f) is at = (refl, refl)
 statement_kept file valid (statement.Vars first count) is at = (refl, refl)
@@ -95,7 +95,7 @@ BeginsAt at tokens = (first : Token) × (more : List Token) × (tokens ≡ first
 
 -- of each statement
 pub statement_begins : (file : File) (s : Statement) (at : ℕ) →
-    BeginsAt at (tokens_of at (laid_statement file s).pieces)
+    BeginsAt at (tokens_of at (written_statement file s).pieces)
 statement_begins file (statement.Sort s) at = (_, _, refl, refl)
 statement_begins file (statement.Hom f) at = (_, _, refl, refl)
 statement_begins file (statement.Vars first count) at = (_, _, refl, refl)
@@ -106,11 +106,12 @@ statement_begins file (statement.Goal i) at = (_, _, refl, refl)
 
 -- today's reading goes past a statement that can be read today
 pub statement_passed : (file : File) → IsValid file → IsReadToday file → (s : Statement) → IsStatementOf file s →
-    flat_map bytes_of ((laid_statement file s).pieces ++ (line_feed ∷ [])) ≡ statement_text file (unanswered file) s →
+    flat_map bytes_of ((written_statement file s).pieces ++ (line_feed ∷ []))
+    ≡ statement_text file (unanswered file) s →
     most_open 0 (statement_text file (unanswered file) s) ≤ MAX_OPEN → (at : ℕ) →
-    GoesPast unread_today 0 None (tokens_of at (laid_statement file s).pieces)
+    GoesPast unread_today 0 None (tokens_of at (written_statement file s).pieces)
 statement_passed file valid today s is spells few at =
-    let pieces = (laid_statement file s).pieces in
+    let pieces = (written_statement file s).pieces in
     let rest = flat_map bytes_of (line_feed ∷ []) in
     let whole = ap (most_open 0) (sym (flat_map-append bytes_of pieces (line_feed ∷ [])) ∙ spells) in
     goes_past 0 at None pieces rest (statement_passes file (plain_names file valid) today s is) (omega arith)
@@ -135,11 +136,12 @@ read_of unread text from at stop tokens kind (first, more, is, starts) reaches p
 
 -- where a text has its tokens and reading goes past them, it is read there
 pub statement_read : (unread : Unread) (file : File) → IsValid file → (s : Statement) → IsStatementOf file s →
-    (text : List ℕ) (from at stop : ℕ) → TokensTo text from (tokens_of at (laid_statement file s).pieces) stop →
-    GoesPast unread 0 None (tokens_of at (laid_statement file s).pieces) →
+    (text : List ℕ) (from at stop : ℕ) → TokensTo text from (tokens_of at (written_statement file s).pieces) stop →
+    GoesPast unread 0 None (tokens_of at (written_statement file s).pieces) →
     IsRead unread Plain text from
-    (Ok (record { kind = (laid_statement file s).raw at; start = at; stop = stop; too_deep = None }))
+    (Ok (record { kind = (written_statement file s).raw at; start = at; stop = stop; too_deep = None }))
 statement_read unread file valid s is text from at stop reaches passes =
-    read_of unread text from at stop (tokens_of at (laid_statement file s).pieces) ((laid_statement file s).raw at)
+    read_of unread text from at stop (tokens_of at (written_statement file s).pieces)
+    ((written_statement file s).raw at)
     (statement_begins file s at) reaches passes (statement_derived file valid s is at)
     (statement_kept file valid s is at)

@@ -28,8 +28,8 @@ use Rattle.alg_typing.proofs.FreshNames.{AreDistinct}
 use Rattle.alg_typing.proofs.Growing.{Grows}
 use Rattle.alg_typing.proofs.Induction.{induction}
 use Rattle.alg_printer.specs.Names.{var_name, hom_name}
-use Rattle.alg_reading_back.proofs.LaidTerms.{Laid, laid, raw_at, spaced, tight, space, sign, numeral, part_pieces, part_raw, in_parentheses, span}
-use Rattle.alg_reading_back.proofs.Placed.{Placed, placed_left, placed_right, part_as, span_bytes}
+use Rattle.alg_reading_back.proofs.WrittenTerms.{WrittenTerm, written, raw_at, spaced, tight, space, sign, numeral, part_pieces, part_raw, in_parentheses, span}
+use Rattle.alg_reading_back.proofs.PiecesAt.{PiecesAt, pieces_at_left, pieces_at_right, part_as, span_bytes}
 
 module _ (file g : File) (text : List ℕ) (distinct : AreDistinct (names_of g)) (grows : Grows g file) where
   -- a name of the file that the front has too is declared there as it is in the file
@@ -65,11 +65,11 @@ module _ (file g : File) (text : List ℕ) (distinct : AreDistinct (names_of g))
   IsBack t raw = (term_of g text raw ≡ t) × (term_names g text raw ≡ [])
 
   -- wherever the pieces stand in the text
-  abbrev pub ComesBack : Term → Laid → Type 0
-  ComesBack t l = (at : ℕ) → Placed text at l.pieces → IsBack t (l.raw at)
+  abbrev pub ComesBack : Term → WrittenTerm → Type 0
+  ComesBack t l = (at : ℕ) → PiecesAt text at l.pieces → IsBack t (l.raw at)
 
   -- and so does a part, in parentheses or not
-  part_back : (t : Term) (l : Laid) (wanted at : ℕ) → ComesBack t l → Placed text at (part_pieces wanted l) →
+  part_back : (t : Term) (l : WrittenTerm) (wanted at : ℕ) → ComesBack t l → PiecesAt text at (part_pieces wanted l) →
       IsBack t (part_raw wanted l at)
   part_back t l wanted at back placed = part_as text (IsBack t) l wanted at back placed
 
@@ -89,27 +89,27 @@ module _ (file g : File) (text : List ℕ) (distinct : AreDistinct (names_of g))
 
   spaced_back : (op : Sign) (node : RawTerm → RawTerm → RawNode) (build : Term → Term → Term) →
       length (sign_spelling op) ≡ 1 →
-      IsNodeOfTwo node build → (t u : Term) (l r : Laid) → ComesBack t l → ComesBack u r →
+      IsNodeOfTwo node build → (t u : Term) (l r : WrittenTerm) → ComesBack t l → ComesBack u r →
       ComesBack (build t u) (spaced op node l r)
   spaced_back op node build one is t u l r back back' at placed =
-      let left = placed_left text at (part_pieces 1 l) (space ∷ sign op ∷ space ∷ part_pieces 2 r) placed in
-      let rest = placed_right text at (part_pieces 1 l) (space ∷ sign op ∷ space ∷ part_pieces 2 r) placed in
+      let left = pieces_at_left text at (part_pieces 1 l) (space ∷ sign op ∷ space ∷ part_pieces 2 r) placed in
+      let rest = pieces_at_right text at (part_pieces 1 l) (space ∷ sign op ∷ space ∷ part_pieces 2 r) placed in
       let w = width (part_pieces 1 l) in
       let place : (((at + w) + 1) + length (sign_spelling op)) + 1 ≡ (at + w + 1) + 2 = omega (arith, one) in
-      let right = subst (λ k. Placed text k (part_pieces 2 r)) place rest.1.1.1 in
+      let right = subst (λ k. PiecesAt text k (part_pieces 2 r)) place rest.1.1.1 in
       two_back node build is t u (at + w + 1) (part_raw 1 l at) (part_raw 2 r ((at + w + 1) + 2))
       (part_back t l 1 at back left) (part_back u r 2 ((at + w + 1) + 2) back' right)
 
   tight_back : (op : Sign) (node : RawTerm → RawTerm → RawNode) (build : Term → Term → Term) →
       length (sign_spelling op) ≡ 1 →
-      IsNodeOfTwo node build → (t u : Term) (l r : Laid) → ComesBack t l → ComesBack u r →
+      IsNodeOfTwo node build → (t u : Term) (l r : WrittenTerm) → ComesBack t l → ComesBack u r →
       ComesBack (build t u) (tight op node l r)
   tight_back op node build one is t u l r back back' at placed =
-      let left = placed_left text at (part_pieces 2 l) (sign op ∷ part_pieces 3 r) placed in
-      let rest = placed_right text at (part_pieces 2 l) (sign op ∷ part_pieces 3 r) placed in
+      let left = pieces_at_left text at (part_pieces 2 l) (sign op ∷ part_pieces 3 r) placed in
+      let rest = pieces_at_right text at (part_pieces 2 l) (sign op ∷ part_pieces 3 r) placed in
       let w = width (part_pieces 2 l) in
       let place : (at + w) + length (sign_spelling op) ≡ (at + w) + 1 = omega (arith, one) in
-      let right = subst (λ k. Placed text k (part_pieces 3 r)) place rest.1 in
+      let right = subst (λ k. PiecesAt text k (part_pieces 3 r)) place rest.1 in
       two_back node build is t u (at + w) (part_raw 2 l at) (part_raw 3 r ((at + w) + 1))
       (part_back t l 2 at back left) (part_back u r 3 ((at + w) + 1) back' right)
 
@@ -135,7 +135,7 @@ module _ (file g : File) (text : List ℕ) (distinct : AreDistinct (names_of g))
   is_div head l r = (refl, refl)
 
   abbrev Back : Term → Type 0
-  Back t = EachNode (IsInRange g) t → ComesBack t (laid file t)
+  Back t = EachNode (IsInRange g) t → ComesBack t (written file t)
 
   var_back : (k : ℕ) → Back (Var k)
   unfolding fold_term fold_under EachNode
@@ -152,14 +152,14 @@ module _ (file g : File) (text : List ℕ) (distinct : AreDistinct (names_of g))
   unfolding fold_term fold_under EachNode Rattle.alg_terms.specs.declared.term.Term.TheBlock.hidden-the_row-Term-0
       Rattle.alg_reader.specs.declared.raw.RawNode.TheBlock.hidden-the_row-RawTerm-0 denote.Hole.Carrier.hidden
   neg_back t back r at placed =
-      let (made, names) = part_back t (laid file t) 3 (at + 1) (back r.1) placed.1 in (ap Neg made, names)
+      let (made, names) = part_back t (written file t) 3 (at + 1) (back r.1) placed.1 in (ap Neg made, names)
 
   pow_back : (t : Term) (n : ℕ) → Back t → Back (Pow t n)
   unfolding fold_term fold_under EachNode Rattle.alg_terms.specs.declared.term.Term.TheBlock.hidden-the_row-Term-0
       Rattle.alg_reader.specs.declared.raw.RawNode.TheBlock.hidden-the_row-RawTerm-0 denote.Hole.Carrier.hidden
   pow_back t n back r at placed =
-      let l = laid file t in
-      let base = placed_left text at (part_pieces 5 l) (sign signs.Caret ∷ numeral n ∷ []) placed in
+      let l = written file t in
+      let base = pieces_at_left text at (part_pieces 5 l) (sign signs.Caret ∷ numeral n ∷ []) placed in
       let (made, names) = part_back t l 5 at (back r.1) base in (ap (λ x. Pow x n) made, names)
 
   hom_back : (f : ℕ) (t : Term) → Back t → Back (Hom f t)
@@ -167,10 +167,10 @@ module _ (file g : File) (text : List ℕ) (distinct : AreDistinct (names_of g))
       Rattle.alg_reader.specs.declared.raw.RawNode.TheBlock.hidden-the_row-RawTerm-0 denote.Hole.Carrier.hidden
   hom_back f t back r at placed =
       let name = hom_name file f in
-      let l = laid file t in
+      let l = written file t in
       let (number, used) =
       hom_used f (span at name) r.0 (span_bytes text at kinds.Name name (in_parentheses l.pieces) placed) in
-      let inside = placed_left text ((at + length name) + 1) l.pieces (sign signs.ParenRight ∷ []) placed.1.1 in
+      let inside = pieces_at_left text ((at + length name) + 1) l.pieces (sign signs.ParenRight ∷ []) placed.1.1 in
       let (made, names) = back r.1 (at + length name + 1) inside in (
         ap (λ k. Hom k (term_of g text (l.raw (at + length name + 1)))) number ∙ ap (Hom f) made,
         ap (λ x. x ++ term_names g text (l.raw (at + length name + 1))) used ∙ names,
@@ -179,25 +179,29 @@ module _ (file g : File) (text : List ℕ) (distinct : AreDistinct (names_of g))
   add_back : (t u : Term) → Back t → Back u → Back (Add t u)
   unfolding fold_term EachNode Rattle.alg_terms.specs.declared.term.Term.TheBlock.hidden-the_row-Term-0
       denote.Hole.Carrier.hidden
-  add_back t u back back' r = spaced_back signs.Plus raw.Add Add refl is_add t u (laid file t) (laid file u) (back r.1)
+  add_back t u back back' r = spaced_back signs.Plus raw.Add Add refl is_add t u (written file t) (written file u)
+      (back r.1)
       (back' r.2)
 
   sub_back : (t u : Term) → Back t → Back u → Back (Sub t u)
   unfolding fold_term EachNode Rattle.alg_terms.specs.declared.term.Term.TheBlock.hidden-the_row-Term-0
       denote.Hole.Carrier.hidden
-  sub_back t u back back' r = spaced_back signs.Minus raw.Sub Sub refl is_sub t u (laid file t) (laid file u) (back r.1)
+  sub_back t u back back' r = spaced_back signs.Minus raw.Sub Sub refl is_sub t u (written file t) (written file u)
+      (back r.1)
       (back' r.2)
 
   mul_back : (t u : Term) → Back t → Back u → Back (Mul t u)
   unfolding fold_term EachNode Rattle.alg_terms.specs.declared.term.Term.TheBlock.hidden-the_row-Term-0
       denote.Hole.Carrier.hidden
-  mul_back t u back back' r = tight_back signs.Star raw.Mul Mul refl is_mul t u (laid file t) (laid file u) (back r.1)
+  mul_back t u back back' r = tight_back signs.Star raw.Mul Mul refl is_mul t u (written file t) (written file u)
+      (back r.1)
       (back' r.2)
 
   div_back : (t u : Term) → Back t → Back u → Back (Div t u)
   unfolding fold_term EachNode Rattle.alg_terms.specs.declared.term.Term.TheBlock.hidden-the_row-Term-0
       denote.Hole.Carrier.hidden
-  div_back t u back back' r = tight_back signs.Slash raw.Div Div refl is_div t u (laid file t) (laid file u) (back r.1)
+  div_back t u back back' r = tight_back signs.Slash raw.Div Div refl is_div t u (written file t) (written file u)
+      (back r.1)
       (back' r.2)
 
   -- each term of the front comes back

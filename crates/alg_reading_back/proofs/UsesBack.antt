@@ -27,12 +27,11 @@ use Rattle.alg_typing.proofs.Growing.{Grows, kind_same, source_same, target_same
 use Rattle.alg_typing.proofs.Ordering.{all_left, all_right}
 use Rattle.alg_printer.specs.Names.{hom_name}
 use Rattle.alg_reading_back.proofs.Closed.{IsClosed}
-use Rattle.alg_reading_back.proofs.LaidMethods.{hyp_name, path_pieces, path_raw, use_pieces, use_raw}
-use Rattle.alg_reading_back.proofs.LaidTerms.{sign, span, in_parentheses}
+use Rattle.alg_reading_back.proofs.WrittenMethods.{hyp_name, path_pieces, path_raw, use_pieces, use_raw}
+use Rattle.alg_reading_back.proofs.WrittenTerms.{sign, span, in_parentheses}
 use Rattle.alg_reading_back.proofs.NamesTaken.{hyp_used, two_empty}
-use Rattle.alg_reading_back.proofs.Placed.{Placed, placed_left, span_bytes}
-use Rattle.alg_reading_back.proofs.SortRules.{field_passes}
-use Rattle.alg_reading_back.proofs.ClearNodes.{no_cause}
+use Rattle.alg_reading_back.proofs.PiecesAt.{PiecesAt, pieces_at_left, span_bytes}
+use Rattle.alg_typing.proofs.SortsClear.{field_passes, no_cause}
 use Rattle.alg_reading_back.proofs.TermsBack.{hom_used}
 
 -- numbers that are equal don't differ
@@ -81,7 +80,7 @@ module _ (file g : File) (text : List ℕ) (distinct : AreDistinct (names_of g))
     names : use_names g text raw ≡ []
 
   path_back : (path : List ℕ) (h at : ℕ) → h < length g.hyps → AllByRecursion (λ f. f < length g.homs) path →
-      Placed text at (path_pieces file path (hyp_name file h)) →
+      PiecesAt text at (path_pieces file path (hyp_name file h)) →
       IsPathBack path h (path_raw file at path (hyp_name file h))
   path_back [] h at low homs placed =
       let bytes = hyp_name file h in
@@ -95,7 +94,7 @@ module _ (file g : File) (text : List ℕ) (distinct : AreDistinct (names_of g))
       let (number, named) =
       hom_used file g text distinct grows f (span at bytes) homs.0
       (span_bytes text at kinds.Name bytes (in_parentheses pieces) placed) in
-      let inside = placed_left text ((at + length bytes) + 1) pieces (sign signs.ParenRight ∷ []) placed.1.1 in
+      let inside = pieces_at_left text ((at + length bytes) + 1) pieces (sign signs.ParenRight ∷ []) placed.1.1 in
       let back = path_back path h (at + length bytes + 1) low homs.1 inside in
       record {
         homs = ap (λ k. k ∷ map (number_at g text) rest.path) number ∙ ap (λ ks. f ∷ ks) back.homs;
@@ -105,7 +104,7 @@ module _ (file g : File) (text : List ℕ) (distinct : AreDistinct (names_of g))
       }
 
   -- a use of the front comes back where its pieces stand
-  pub use_back : (used : Use) (at : ℕ) → IsUseInRange g used → Placed text at (use_pieces file used) →
+  pub use_back : (used : Use) (at : ℕ) → IsUseInRange g used → PiecesAt text at (use_pieces file used) →
       IsUseBack g text used (use_raw file at used)
   use_back used at range placed =
       let homs = recursion_from_All (λ f. f < length g.homs) used.path range.path in
@@ -118,7 +117,7 @@ module _ (file g : File) (text : List ℕ) (distinct : AreDistinct (names_of g))
     clear : path_sorts g text raw.path h ≡ []
 
   path_clear : (path : List ℕ) (h to at : ℕ) → h < length g.hyps → AllByRecursion (λ f. f < length g.homs) path →
-      Leads file path (hyp_at file h).equation.sort to → Placed text at (path_pieces file path (hyp_name file h)) →
+      Leads file path (hyp_at file h).equation.sort to → PiecesAt text at (path_pieces file path (hyp_name file h)) →
       IsPathClear to h (path_raw file at path (hyp_name file h))
   path_clear [] h to at low homs leads placed = record {
     along = sym (ap (λ hyp. hyp.equation.sort) (grows.hyps h low)) ∙ leads;
@@ -130,7 +129,7 @@ module _ (file g : File) (text : List ℕ) (distinct : AreDistinct (names_of g))
       let rest = path_raw file (at + length bytes + 1) path (hyp_name file h) in
       let number = (hom_used file g text distinct grows f (span at bytes) homs.0
       (span_bytes text at kinds.Name bytes (in_parentheses pieces) placed)).0 in
-      let inside = placed_left text ((at + length bytes) + 1) pieces (sign signs.ParenRight ∷ []) placed.1.1 in
+      let inside = pieces_at_left text ((at + length bytes) + 1) pieces (sign signs.ParenRight ∷ []) placed.1.1 in
       let below = path_clear path h (source_of file f) (at + length bytes + 1) low homs.1 leads.1 inside in
       let source : source_of file f ≡ source_of g (number_at g text (span at bytes)) =
       source_same g file grows f homs.0 ∙ ap (source_of g) (sym number) in
@@ -162,7 +161,7 @@ module _ (file g : File) (text : List ℕ) (distinct : AreDistinct (names_of g))
 
   -- a use in a goal of its sort has no faults of sorts
   pub use_clear : (s : ℕ) (used : Use) (at : ℕ) → IsClosed g → IsUseInRange g used → IsUse file s used →
-      Placed text at (use_pieces file used) → use_sorts g text (Some s) (use_raw file at used) ≡ []
+      PiecesAt text at (use_pieces file used) → use_sorts g text (Some s) (use_raw file at used) ≡ []
   use_clear s used at closed range is placed =
       let raw = use_raw file at used in
       let first = start_of raw in

@@ -25,13 +25,13 @@ use Rattle.alg_tokens.specs.declared.token.TokenKind.TheVariants as kinds
 use Rattle.alg_tokens.specs.Pieces.{Piece, Blank, Lexeme, bytes_of}
 use Rattle.alg_tokens.specs.Spelling.{sign_spelling, spelling}
 use Rattle.alg_tokens.proofs.Leads.{word_spelled}
-use Rattle.alg_tokens.proofs.Neighbours.{spell, AllStand}
-use Rattle.alg_tokens.proofs.Standing.{Stands}
+use Rattle.alg_tokens.proofs.Neighbours.{spell, EachEnds}
+use Rattle.alg_tokens.proofs.PieceEnds.{EndsBefore}
 use Rattle.alg_printer.specs.Text.{text_of}
 use Rattle.alg_reading_back.specs.ReadingBack.{unanswered}
-use Rattle.alg_reading_back.proofs.LaidStatements.{file_pieces}
+use Rattle.alg_reading_back.proofs.WrittenStatements.{file_pieces}
 use Rattle.alg_reading_back.proofs.SpelledStatements.{spelled_file}
-use Rattle.alg_reading_back.proofs.StandingStatements.{stand_file}
+use Rattle.alg_reading_back.proofs.StatementEnds.{file_pieces_end}
 
 -- ---- characters of names
 
@@ -94,7 +94,7 @@ sign_utf8 s = elim s as (λ s. IsUtf8 (sign_spelling s)) [
   | _ ↦ low_utf8 _ (lit< tt, tt)
 ]
 
-piece_utf8 : (piece : Piece) (next : List ℕ) → Stands piece next → IsUtf8 (bytes_of piece)
+piece_utf8 : (piece : Piece) (next : List ℕ) → EndsBefore piece next → IsUtf8 (bytes_of piece)
 piece_utf8 (Blank bytes) next (b, is, blank) =
     let low : b < 128 = grind (arith, nat_tests) in subst IsUtf8 (sym is) (low_utf8 (b ∷ []) (low, tt))
 piece_utf8 (Lexeme kinds.Name bytes) next (is, free, stops) = name_utf8 bytes is
@@ -104,7 +104,7 @@ piece_utf8 (Lexeme (kinds.Number value) bytes) next (is, same, small, stops) = l
 piece_utf8 (Lexeme (kinds.Sign sign) bytes) next (is, stops) = subst IsUtf8 (sym is) (sign_utf8 sign)
 piece_utf8 (Lexeme kinds.End bytes) next stands = absurd stands
 
-pieces_utf8 : (pieces : List Piece) (rest : List ℕ) → AllStand pieces rest → IsUtf8 (spell pieces)
+pieces_utf8 : (pieces : List Piece) (rest : List ℕ) → EachEnds pieces rest → IsUtf8 (spell pieces)
 pieces_utf8 [] rest stand = IsUtf8-nil
 pieces_utf8 (piece ∷ pieces) rest (stands, stand) =
     IsUtf8-append (bytes_of piece) (spell pieces) (piece_utf8 piece (spell pieces ++ rest) stands)
@@ -113,4 +113,4 @@ pieces_utf8 (piece ∷ pieces) rest (stands, stand) =
 pub text_utf8 : (file : File) → IsValid file → IsUtf8 (text_of file (unanswered file))
 text_utf8 file valid =
     subst IsUtf8 (spelled_file file valid)
-    (pieces_utf8 (file_pieces file file.order) [] (stand_file file valid))
+    (pieces_utf8 (file_pieces file file.order) [] (file_pieces_end file valid))

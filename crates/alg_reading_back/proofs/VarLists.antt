@@ -14,10 +14,10 @@ use Rattle.alg_reader.specs.WellRead.{bytes_at}
 use Rattle.alg_typing.specs.Resolved.{vars_of}
 use Rattle.alg_typing.proofs.FreshNames.{Name}
 use Rattle.alg_printer.specs.Names.{var_name}
-use Rattle.alg_reading_back.proofs.LaidStatements.{name_pieces, name_spans}
-use Rattle.alg_reading_back.proofs.LaidTerms.{span}
+use Rattle.alg_reading_back.proofs.WrittenStatements.{name_pieces, name_spans}
+use Rattle.alg_reading_back.proofs.WrittenTerms.{span}
 use Rattle.alg_reading_back.proofs.NextLists.{first_same}
-use Rattle.alg_reading_back.proofs.Placed.{Placed, span_bytes}
+use Rattle.alg_reading_back.proofs.PiecesAt.{PiecesAt, span_bytes}
 
 -- as many numbers as are counted
 pub numbers_long : (first count : ℕ) → length (numbers_from first count) ≡ count
@@ -53,7 +53,7 @@ take_several xs n (suc count) d fits =
 
 -- the bytes of names that stand in a text, each after a space
 pub names_bytes : (text : List ℕ) (at : ℕ) (names : List Name) (rest : List Piece) →
-    Placed text at (name_pieces names ++ rest) → map (bytes_at text) (name_spans at names) ≡ names
+    PiecesAt text at (name_pieces names ++ rest) → map (bytes_at text) (name_spans at names) ≡ names
 names_bytes text at [] rest h = refl
 names_bytes text at (bytes ∷ names) rest h =
     let here : bytes_at text (span (at + 1) bytes) ≡ bytes =

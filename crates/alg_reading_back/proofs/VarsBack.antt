@@ -24,11 +24,11 @@ use Rattle.alg_typing.proofs.Ordering.{all_right}
 use Rattle.alg_printer.specs.Names.{sort_name, var_name}
 use Rattle.alg_reading_back.proofs.Fresh.{fresh_var}
 use Rattle.alg_reading_back.proofs.Fronts.{front, vars_in, next, grows}
-use Rattle.alg_reading_back.proofs.LaidStatements.{laid_statement, name_pieces, name_spans, dot, behind}
-use Rattle.alg_reading_back.proofs.LaidTerms.{space, sign, word, name}
+use Rattle.alg_reading_back.proofs.WrittenStatements.{written_statement, name_pieces, name_spans, dot, behind}
+use Rattle.alg_reading_back.proofs.WrittenTerms.{space, sign, word, name}
 use Rattle.alg_reading_back.proofs.NamesTaken.{AreFresh, news_taken, sort_used, sort_before, two_empty}
 use Rattle.alg_reading_back.proofs.NextLists.{same_lists, same_list}
-use Rattle.alg_reading_back.proofs.Placed.{Placed, placed_left, placed_right, span_bytes}
+use Rattle.alg_reading_back.proofs.PiecesAt.{PiecesAt, pieces_at_left, pieces_at_right, span_bytes}
 use Rattle.alg_reading_back.proofs.Steps.{count_with, length_of_take}
 use Rattle.alg_reading_back.proofs.Taken.{IsTaken}
 use Rattle.alg_reading_back.proofs.VarLists.{numbers_long, begin_same, first_of_all, take_several, names_bytes, length_of_spans, declared_vars}
@@ -112,8 +112,8 @@ module _ (file : File) (valid : IsValid file) (before after : List Statement) wh
 
   pub vars_taken : (first count : ℕ) → file.order ≡ before ++ (statement.Vars first count ∷ after) →
       AreDistinct (names_of (front file before)) → (text : List ℕ) (at : ℕ) →
-      Placed text at (laid_statement file (statement.Vars first count)).pieces →
-      IsTaken (front file before) text ((laid_statement file (statement.Vars first count)).raw at)
+      PiecesAt text at (written_statement file (statement.Vars first count)).pieces →
+      IsTaken (front file before) text ((written_statement file (statement.Vars first count)).raw at)
       (front file (before ++ statement.Vars first count ∷ []))
   vars_taken first count split distinct text at placed =
       let s = statement.Vars first count in
@@ -126,10 +126,10 @@ module _ (file : File) (valid : IsValid file) (before after : List Statement) wh
       let spans = name_spans (at + 3) names in
       let sort = behind head at (sort_name file of) in
       let bytes : map (bytes_at text) spans ≡ names =
-      names_bytes text (at + 3) names colon (placed_left text at head (name (sort_name file of) ∷ dot) placed).1 in
+      names_bytes text (at + 3) names colon (pieces_at_left text at head (name (sort_name file of) ∷ dot) placed).1 in
       let sort_bytes : bytes_at text sort ≡ sort_name file of =
       span_bytes text (at + width head) kinds.Name (sort_name file of) dot
-      (placed_right text at head (name (sort_name file of) ∷ dot) placed) in
+      (pieces_at_right text at head (name (sort_name file of) ∷ dot) placed) in
       let (number, used) = sort_used g text file distinct (grows file before) of sort
       (vars_sorted first count split vars.some) sort_bytes in
       let new : vars_of g text (number_at g text sort) spans ≡ map (var_at file) (numbers_from first count) =

@@ -7,7 +7,8 @@ use Rattle.alg_terms.specs.declared.term.Atom.{Atom}
 use Rattle.alg_terms.specs.declared.file.File.{File}
 use Rattle.alg_terms.specs.declared.goals.Equation.{Equation}
 use Rattle.alg_terms.specs.declared.goals.Use.{Use}
-use Rattle.alg_reify.specs.Table.{atom_eq, each_once, leaves, equation_leaves, use_leaves, table}
+use Rattle.alg_terms.specs.Lists.{each_once}
+use Rattle.alg_reify.specs.Table.{atom_eq, leaves, equation_leaves, use_leaves, table}
 use Rattle.alg_reify.proofs.AtomsIn.{both_parts}
 use Rattle.alg_reify.proofs.Once.{atoms_decide}
 
@@ -42,14 +43,14 @@ once_more a ys x false e h =
     (kept (λ c. not (atom_eq a c)) ys x h.0 (ap not e) h.1 h.2)
 
 -- each member of a list stands in the list with each member once
-once_holds : (xs : List Atom) → ByRecursion (Contains (each_once xs)) xs
+once_holds : (xs : List Atom) → ByRecursion (Contains (each_once atom_eq xs)) xs
 once_holds [] = tt
 once_holds (a ∷ xs) = (
-  contains_first a (filter (λ c. not (atom_eq a c)) (each_once xs)) a refl,
-  recursion_from_All (Contains (each_once (a ∷ xs))) xs
-      (All-weaker (Contains (each_once xs)) (Contains (each_once (a ∷ xs)))
-      (λ x h. once_more a (each_once xs) x (atom_eq a x) refl h) xs
-      (All-from_recursion (Contains (each_once xs)) xs (once_holds xs))),
+  contains_first a (filter (λ c. not (atom_eq a c)) (each_once atom_eq xs)) a refl,
+  recursion_from_All (Contains (each_once atom_eq (a ∷ xs))) xs
+      (All-weaker (Contains (each_once atom_eq xs)) (Contains (each_once atom_eq (a ∷ xs)))
+      (λ x h. once_more a (each_once atom_eq xs) x (atom_eq a x) refl h) xs
+      (All-from_recursion (Contains (each_once atom_eq xs)) xs (once_holds xs))),
 )
 
 module _ (file : File) (e : Equation) (uses : List Use) where

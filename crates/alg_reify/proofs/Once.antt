@@ -7,7 +7,8 @@ use Rattle.std.proofs.lemmas.Bool.{eqb-true, eq-eqb}
 use Rattle.std.proofs.lemmas.Slice.Eq.{bytes_eq-Decides}
 use Rattle.indexmap.specs.IndexSet.{insert_key, insert_all}
 use Rattle.alg_terms.specs.declared.term.Atom.{Atom}
-use Rattle.alg_reify.specs.Table.{atom_eq, each_once}
+use Rattle.alg_terms.specs.Lists.{each_once}
+use Rattle.alg_reify.specs.Table.{atom_eq}
 
 pub same_test : (a b : Bool) → (a ≡ true → b ≡ true) → (b ≡ true → a ≡ true) → a ≡ b
 same_test true true f g = refl
@@ -82,18 +83,18 @@ new_after ks a y =
 
 step : (ks : List Atom) (a : Atom) (xs : List Atom) (b : Bool) → list_any (atom_eq a) ks ≡ b
     → insert_all atom_eq (cond b ks (ks ++ a ∷ [])) xs ≡ cond b ks (ks ++ a ∷ []) ++ filter
-    (is_new (cond b ks (ks ++ a ∷ []))) (each_once xs)
-    → insert_all atom_eq (cond b ks (ks ++ a ∷ [])) xs ≡ ks ++ filter (is_new ks) (each_once (a ∷ xs))
+    (is_new (cond b ks (ks ++ a ∷ []))) (each_once atom_eq xs)
+    → insert_all atom_eq (cond b ks (ks ++ a ∷ [])) xs ≡ ks ++ filter (is_new ks) (each_once atom_eq (a ∷ xs))
 step ks a xs true h rest =
     rest ∙ ap (λ zs. ks ++ zs) (rw h (sym (filter_both (is_new ks) (λ y. not (atom_eq a y)) (is_new ks)
-    (λ y. new_not ks a y h) (each_once xs))))
+    (λ y. new_not ks a y h) (each_once atom_eq xs))))
 step ks a xs false h rest =
     let kept = filter_both (is_new ks) (λ y. not (atom_eq a y)) (is_new (ks ++ a ∷ [])) (λ y. new_after ks a y)
-    (each_once xs) in
-    rest ∙ append_assoc ks (a ∷ []) (filter (is_new (ks ++ a ∷ [])) (each_once xs))
+    (each_once atom_eq xs) in
+    rest ∙ append_assoc ks (a ∷ []) (filter (is_new (ks ++ a ∷ [])) (each_once atom_eq xs))
     ∙ rw h (ap (λ zs. ks ++ a ∷ zs) (sym kept))
 
-pub insert_all-once : (ks xs : List Atom) → insert_all atom_eq ks xs ≡ ks ++ filter (is_new ks) (each_once xs)
+pub insert_all-once : (ks xs : List Atom) → insert_all atom_eq ks xs ≡ ks ++ filter (is_new ks) (each_once atom_eq xs)
 insert_all-once ks [] = sym (append-nil ks)
 insert_all-once ks (a ∷ xs) = step ks a xs (list_any (atom_eq a) ks) refl (insert_all-once (insert_key atom_eq ks a) xs)
 
@@ -102,5 +103,5 @@ filter_all [] = refl
 filter_all (y ∷ ys) = ap (λ zs. y ∷ zs) (filter_all ys)
 
 -- the table is what adding one atom after the other gives
-pub insert_all-none : (xs : List Atom) → insert_all atom_eq [] xs ≡ each_once xs
-insert_all-none xs = insert_all-once [] xs ∙ filter_all (each_once xs)
+pub insert_all-none : (xs : List Atom) → insert_all atom_eq [] xs ≡ each_once atom_eq xs
+insert_all-none xs = insert_all-once [] xs ∙ filter_all (each_once atom_eq xs)

@@ -1,5 +1,5 @@
 -- The atoms that occur in terms, and the table of a goal.
-use Rattle.std.specs.Prelude.{ℕ, Bool, not, ◌&&◌, ◌==◌, List, [], ◌∷◌, ◌++◌, filter, flat_map, slice_get}
+use Rattle.std.specs.Prelude.{ℕ, Bool, ◌&&◌, ◌==◌, List, [], ◌∷◌, ◌++◌, flat_map, slice_get}
 use Rattle.std.specs.Cmp.Lexicographic.{pointwise}
 use Rattle.std.specs.Prelude.{nat_eq}
 use Rattle.std.specs.Option.{option_map_or}
@@ -9,6 +9,7 @@ use Rattle.alg_terms.specs.declared.term.Term.TheOpen.{Term-F}
 use Rattle.alg_terms.specs.declared.file.File.{File}
 use Rattle.alg_terms.specs.declared.goals.Equation.{Equation}
 use Rattle.alg_terms.specs.declared.goals.Use.{Use}
+use Rattle.alg_terms.specs.Lists.{each_once}
 use Rattle.alg_terms.specs.Nodes.{fold_term}
 
 -- whether two atoms are one: the same variable under the same path
@@ -31,11 +32,6 @@ node_leaves (Term-F.Hom f t) path = t (path ++ f ∷ [])
 abbrev pub leaves : List ℕ → Term → List Atom
 leaves path t = fold_term node_leaves t path
 
--- each member once, where it occurs first
-abbrev pub each_once : List Atom → List Atom
-each_once [] = []
-each_once (a ∷ atoms) = a ∷ filter (λ b. not (atom_eq a b)) (each_once atoms)
-
 -- the atoms of both sides under a path, the left side first
 abbrev pub equation_leaves : List ℕ → Equation → List Atom
 equation_leaves path e = leaves path e.left ++ leaves path e.right
@@ -46,7 +42,7 @@ use_leaves file u = option_map_or (λ h. equation_leaves u.path h.equation) (sli
 
 -- the table of an equation with used hypotheses: atom number k is the k-th of it, from 0
 abbrev pub table : File → Equation → List Use → List Atom
-table file e uses = each_once (equation_leaves [] e ++ flat_map (use_leaves file) uses)
+table file e uses = each_once atom_eq (equation_leaves [] e ++ flat_map (use_leaves file) uses)
 
 -- the most atoms that a table may have
 abbrev pub MAX_ATOMS : ℕ

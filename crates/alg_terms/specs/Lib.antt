@@ -1,7 +1,9 @@
 pub mod Limits
 pub mod AnswerRules
 pub mod GoalRules
+pub mod Ascii
 pub mod Kinds
+pub mod Lists
 pub mod Members
 pub mod Names
 pub mod Nodes

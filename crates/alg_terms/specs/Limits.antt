@@ -49,3 +49,7 @@ MAX_USES = 2 ^ 30 - 1
 -- each list of a file has fewer members than this: their numbers are of 32 bits
 abbrev pub MEMBERS_END : ℕ
 MEMBERS_END = 2 ^ 32
+
+-- the greatest number of bytes of a text that is read
+abbrev pub MAX_TEXT : ℕ
+MAX_TEXT = 16777216

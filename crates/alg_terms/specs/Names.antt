@@ -1,15 +1,16 @@
 -- Names: how they are spelled, and the words that are reserved. A text is the list of its UTF-8 bytes.
 use Rattle.std.specs.Prelude.{◌≡◌, ℕ, Bool, true, false, ◌||◌, ◌==◌, List, [], ◌∷◌, bytes_eq, codes, encode_utf8_all}
 use Rattle.std.specs.List.{list_any}
+use Rattle.alg_terms.specs.Ascii.{APOSTROPHE, UNDERSCORE}
 use Rattle.unicode_ident.specs.Ident.{is_xid_start, is_xid_continue}
 
 -- the character may begin a name: `_`, or one that may begin an identifier by Unicode
 abbrev pub starts_name : ℕ → Bool
-starts_name c = (c == 95) || is_xid_start c
+starts_name c = (c == UNDERSCORE) || is_xid_start c
 
 -- the character may go on with a name: `'`, or one that may go on with an identifier by Unicode
 abbrev pub continues_name : ℕ → Bool
-continues_name c = (c == 39) || is_xid_continue c
+continues_name c = (c == APOSTROPHE) || is_xid_continue c
 
 -- each character may go on with a name
 abbrev pub AllContinue : List ℕ → Type 0

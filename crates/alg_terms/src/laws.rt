@@ -5,7 +5,8 @@ ghost use Rattle.alg_terms.specs.Limits as limit;
 
 use crate::limits::{
     GREATEST_DEPTH, GREATEST_EXPONENT, GREATEST_LIMIT, GREATEST_LITERAL, GREATEST_OPEN,
-    GREATEST_POWER, GREATEST_USES, LEAST_LIMIT, LEAST_POWER, USUAL_LIMIT, USUAL_POWER,
+    GREATEST_POWER, GREATEST_TEXT, GREATEST_USES, LEAST_LIMIT, LEAST_POWER, USUAL_LIMIT,
+    USUAL_POWER,
 };
 
 /// Each limit of the code is the number that the definitions have.
@@ -20,5 +21,6 @@ pub fn limits()
     ensures least_limit { LEAST_LIMIT ≡ limit.MIN_LIMIT }
     ensures greatest_limit { GREATEST_LIMIT ≡ limit.MAX_LIMIT }
     ensures usual_limit { USUAL_LIMIT ≡ limit.DEFAULT_LIMIT }
+    ensures text { GREATEST_TEXT ≡ limit.MAX_TEXT }
     ensures uses { GREATEST_USES ≡ limit.MAX_USES }
 {}

@@ -33,3 +33,6 @@ pub const USUAL_LIMIT: u32 = 10_000;
 
 /// The greatest number of uses of a goal.
 pub const GREATEST_USES: u32 = (1 << 30) - 1;
+
+/// The greatest number of bytes of a text that is read.
+pub const GREATEST_TEXT: usize = 16_777_216;

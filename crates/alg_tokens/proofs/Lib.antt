@@ -10,6 +10,6 @@ pub mod Steps
 pub mod Unique
 pub mod Cuttings
 pub mod Following
-pub mod Standing
+pub mod PieceEnds
 pub mod Neighbours
 pub mod Numerals

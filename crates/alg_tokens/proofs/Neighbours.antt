@@ -1,4 +1,4 @@
--- Pieces that stand side by side: what they spell is cut into them, and the tokens among them.
+-- Pieces that each end where the next begins: what they spell is cut into them, and the tokens among them.
 use Rattle.std.proofs.Common.{◌≡◌, ℕ, ◌+◌, List, [], ◌∷◌, ◌++◌, flat_map, length, take, drop, refl, ap, sym, ◌∙◌, subst, arith, append_assoc, length-append}
 use Rattle.std.proofs.lemmas.Grind.{flat_map-append}
 use Rattle.std.proofs.Math.Seq.{take-append_seam, drop-append_seam}
@@ -7,7 +7,7 @@ use Rattle.alg_tokens.specs.declared.token.TokenKind.TheVariants as kinds
 use Rattle.alg_tokens.specs.Next.{IsWithinMax}
 use Rattle.alg_tokens.specs.Pieces.{Piece, Blank, Lexeme, bytes_of, IsCut}
 use Rattle.alg_tokens.specs.Laws.{width, tokens_of, AllWithinMax}
-use Rattle.alg_tokens.proofs.Standing.{Stands, stands_first}
+use Rattle.alg_tokens.proofs.PieceEnds.{EndsBefore, first_if_ends}
 
 -- the bytes of pieces
 abbrev pub spell : List Piece → List ℕ
@@ -26,37 +26,37 @@ pub width_append : (front back : List Piece) → width (front ++ back) ≡ width
 width_append [] back = omega arith
 width_append (piece ∷ front) back = let rest = width_append front back in omega arith
 
--- each piece stands before those behind it and the text that follows
-abbrev pub AllStand : List Piece → List ℕ → Type 0
-AllStand [] rest = Unit {0}
-AllStand (piece ∷ pieces) rest = Stands piece (spell pieces ++ rest) × AllStand pieces rest
+-- each piece ends where those behind it begin, and the last one where the text that follows begins
+abbrev pub EachEnds : List Piece → List ℕ → Type 0
+EachEnds [] rest = Unit {0}
+EachEnds (piece ∷ pieces) rest = EndsBefore piece (spell pieces ++ rest) × EachEnds pieces rest
 
-pub stand_append : (front back : List Piece) (rest : List ℕ) → AllStand front (spell back ++ rest) →
-    AllStand back rest → AllStand (front ++ back) rest
-stand_append [] back rest one other = other
-stand_append (piece ∷ front) back rest (stands, one) other =
+pub ends_append : (front back : List Piece) (rest : List ℕ) → EachEnds front (spell back ++ rest) →
+    EachEnds back rest → EachEnds (front ++ back) rest
+ends_append [] back rest one other = other
+ends_append (piece ∷ front) back rest (stands, one) other =
     let same : spell front ++ (spell back ++ rest) ≡ spell (front ++ back) ++ rest =
     sym (append_assoc (spell front) (spell back) rest) ∙ ap (λ bs. bs ++ rest) (sym (spell_append front back)) in
-    (subst (Stands piece) same stands, stand_append front back rest one other)
+    (subst (EndsBefore piece) same stands, ends_append front back rest one other)
 
--- what pieces that stand spell is cut into them
-pub cut_standing : (pieces : List Piece) (rest : List ℕ) → AllStand pieces rest →
+-- what such pieces spell is cut into them
+pub cut_if_ends : (pieces : List Piece) (rest : List ℕ) → EachEnds pieces rest →
     IsCut pieces (spell pieces ++ rest) rest
-cut_standing [] rest stand = refl
-cut_standing (piece ∷ pieces) rest (stands, stand) =
+cut_if_ends [] rest stand = refl
+cut_if_ends (piece ∷ pieces) rest (stands, stand) =
     let P : List ℕ → Type 0 = λ bs. IsCut (piece ∷ pieces) bs rest in
     subst P (sym (append_assoc (bytes_of piece) (spell pieces) rest))
-    (spell pieces ++ rest, stands_first piece (spell pieces ++ rest) stands, cut_standing pieces rest stand)
+    (spell pieces ++ rest, first_if_ends piece (spell pieces ++ rest) stands, cut_if_ends pieces rest stand)
 
--- a numeral that stands is at most the greatest literal
-within_max : (kind : TokenKind) (bytes next : List ℕ) → Stands (Lexeme kind bytes) next → IsWithinMax kind
+-- a numeral that ends somewhere is at most the greatest literal
+within_max : (kind : TokenKind) (bytes next : List ℕ) → EndsBefore (Lexeme kind bytes) next → IsWithinMax kind
 within_max kinds.Name bytes next stands = tt
 within_max (kinds.Word word) bytes next stands = tt
 within_max (kinds.Number value) bytes next (is, same, small, stops) = small
 within_max (kinds.Sign sign) bytes next stands = tt
 within_max kinds.End bytes next stands = tt
 
-pub all_within_max : (pieces : List Piece) (rest : List ℕ) (at : ℕ) → AllStand pieces rest →
+pub all_within_max : (pieces : List Piece) (rest : List ℕ) (at : ℕ) → EachEnds pieces rest →
     AllWithinMax (tokens_of at pieces)
 all_within_max [] rest at stand = tt
 all_within_max (Blank bytes ∷ pieces) rest at (stands, stand) = all_within_max pieces rest (at + length bytes) stand

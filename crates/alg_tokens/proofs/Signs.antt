@@ -99,10 +99,10 @@ abbrev SignIsFirst : List ℕ → Sign × ℕ → Type 0
 SignIsFirst text found = (0 < found.1) × (found.1 ≤ length text) × IsFirst (Lexeme (kinds.Sign found.0)
     (take found.1 text)) text (drop found.1 text)
 
-sign_stands : (text rest : List ℕ) (found : Sign × ℕ) → text ≡ sign_spelling found.0 ++ rest → found.1 ≡ length
+sign_piece_ends : (text rest : List ℕ) (found : Sign × ℕ) → text ≡ sign_spelling found.0 ++ rest → found.1 ≡ length
     (sign_spelling found.0)
     → sign_of (get_or text 0 0) (get_or text 1 0) ≡ Some found → SignIsFirst text found
-sign_stands text rest found whole size e =
+sign_piece_ends text rest found whole size e =
     let bytes = sign_spelling found.0 in
     let lead = leads (Lexeme (kinds.Sign found.0) bytes) text rest (refl, whole) in
     let taken : take found.1 text ≡ bytes = rw (size, whole) (take-append_seam bytes rest) in
@@ -121,13 +121,13 @@ pub sign_first : (text : List ℕ) (found : Sign × ℕ) → sign_of (get_or tex
     → SignIsFirst text found
 sign_first [] found e = cc
 sign_first (a ∷ []) found e = elim (subst (IsSpelled a 0) e (sign_spelled a 0)) [
-  | inl (is, n) ↦ sign_stands (a ∷ []) [] found (ap (λ bs. bs ++ []) (sym is)) (n ∙ ap length (sym is)) e
+  | inl (is, n) ↦ sign_piece_ends (a ∷ []) [] found (ap (λ bs. bs ++ []) (sym is)) (n ∙ ap length (sym is)) e
   | inr (is, n, second) ↦ absurd (omega (arith, second))
 ]
 sign_first (a ∷ b ∷ rest) found e = elim (subst (IsSpelled a b) e (sign_spelled a b)) [
-  | inl (is, n) ↦ sign_stands (a ∷ b ∷ rest) (b ∷ rest) found (ap (λ bs. bs ++ b ∷ rest) (sym is)) (n
+  | inl (is, n) ↦ sign_piece_ends (a ∷ b ∷ rest) (b ∷ rest) found (ap (λ bs. bs ++ b ∷ rest) (sym is)) (n
       ∙ ap length (sym is)) e
-  | inr (is, n, second) ↦ sign_stands (a ∷ b ∷ rest) rest found (ap (λ bs. bs ++ rest) (sym is)) (n ∙ ap length
+  | inr (is, n, second) ↦ sign_piece_ends (a ∷ b ∷ rest) rest found (ap (λ bs. bs ++ rest) (sym is)) (n ∙ ap length
       (sym is)) e
 ]
 

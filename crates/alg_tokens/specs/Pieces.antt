@@ -2,6 +2,7 @@
 use Rattle.std.specs.Prelude.{◌≡◌, ◌≢◌, ◌≤◌, ℕ, Bool, true, false, ◌||◌, ◌==◌, ◌+◌, ◌-◌, ◌*◌, ◌^◌, ◌⊎◌, List, [], ◌∷◌, ◌++◌, length, pos}
 use Rattle.std.specs.List.{AllByRecursion}
 use Rattle.std.specs.Char.{IsAsciiDigit}
+use Rattle.alg_terms.specs.Ascii.{TAB, LINE_FEED, CARRIAGE_RETURN, SPACE, NUMBER_SIGN, DIGIT_0}
 use Rattle.alg_terms.specs.Names.{IsSpelledAsName, is_reserved}
 use Rattle.alg_tokens.specs.declared.token.TokenKind.{TokenKind}
 use Rattle.alg_tokens.specs.declared.token.TokenKind.TheVariants as kinds
@@ -10,7 +11,7 @@ use Rattle.alg_tokens.specs.Spelling.{spelling, sign_spelling}
 -- the number that digits spell: each digit times the power of ten of its place
 abbrev pub value_of : List ℕ → ℕ
 value_of [] = 0
-value_of (digit ∷ digits) = (digit - 48) * 10 ^ length digits + value_of digits
+value_of (digit ∷ digits) = (digit - DIGIT_0) * 10 ^ length digits + value_of digits
 
 -- the bytes are a numeral: one digit or more
 abbrev pub IsNumeral : List ℕ → Type 0
@@ -26,11 +27,12 @@ Spells kinds.End bytes = ⊥
 
 -- a space, a tab, a line feed or a carriage return
 abbrev pub is_blank : ℕ → Bool
-is_blank byte = (byte == 32 || byte == 9) || (byte == 10 || byte == 13)
+is_blank byte = (byte == SPACE || byte == TAB) || (byte == LINE_FEED || byte == CARRIAGE_RETURN)
 
 -- `#` and what follows it in its line
 abbrev pub IsComment : List ℕ → Type 0
-IsComment bytes = (line : List ℕ) × (bytes ≡ 35 ∷ line) × AllByRecursion (λ byte. byte ≢ 10) line
+IsComment bytes =
+    (line : List ℕ) × (bytes ≡ NUMBER_SIGN ∷ line) × AllByRecursion (λ byte. byte ≢ LINE_FEED) line
 
 -- one of these bytes alone, or a comment
 abbrev pub IsBlank : List ℕ → Type 0

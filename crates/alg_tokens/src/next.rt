@@ -2,6 +2,7 @@
 
 ghost use Rattle.std.specs.Prelude.{◌≡◌, ◌≤◌, ◌<◌, ◌+◌, length, slice_index, IfOk};
 ghost use Rattle.std.specs.Str.{IsCharBoundary};
+ghost use Rattle.alg_terms.specs.Limits.{MAX_TEXT};
 ghost use Rattle.alg_terms.specs.Names.{IsSpelledAsName};
 ghost use Rattle.alg_tokens.specs.Pieces.{Spells};
 ghost use Rattle.alg_tokens.specs.Runs.{sign_of, BeginsNoBlank};
@@ -18,7 +19,7 @@ use crate::word::reserved;
 /// ends of the token. Takes no memory; reads each byte of the blanks and of the token once, and a name
 /// that may be a reserved word once more.
 pub fn next_token(text: &str, at: u32) -> Result<Token, Refusal>
-    requires size { length text.now ≤ 16777216 }
+    requires size { length text.now ≤ MAX_TEXT }
     requires boundary { IsCharBoundary text.now at }
     ensures next { IsNext text.now at result }
     ensures boundaries { IfOk result (λ t. IsCharBoundary text.now t.start × IsCharBoundary text.now t.stop) }

@@ -2,6 +2,7 @@
 
 use crate::laws::{cut_from_anywhere, cut_goes_on, one_cutting, one_next};
 use crate::{Refusal, Sign, Token, TokenKind, Word, next_token};
+use alg_terms::GREATEST_TEXT;
 
 fn token(kind: TokenKind, start: u32, stop: u32) -> Result<Token, Refusal> {
     Ok(Token { kind, start, stop })
@@ -20,7 +21,7 @@ fn sign(sign: Sign, stop: u32) -> Result<Token, Refusal> {
 }
 
 fn first_of(text: &str) -> Option<Result<Token, Refusal>> {
-    if text.len() <= 16_777_216 {
+    if text.len() <= GREATEST_TEXT {
         Some(next_token(text, 0))
     } else {
         None

@@ -10,7 +10,7 @@ use Rattle.alg_terms.specs.declared.goals.Goal.{Goal}
 use Rattle.alg_terms.specs.declared.goals.Hyp.{Hyp}
 use Rattle.alg_terms.specs.declared.goals.Method.{Method}
 use Rattle.alg_terms.specs.declared.goals.Method.TheVariants.{ByRing, ByField, ByNsatz}
-use Rattle.alg_terms.specs.Limits.{MAX_USES}
+use Rattle.alg_terms.specs.Limits.{MAX_USES, MAX_TEXT}
 use Rattle.alg_terms.specs.GoalRules.{IsHyp, IsUse, MayBeBy, IsGoal}
 use Rattle.alg_terms.specs.Members.{no_hyp, no_goal, uses_of}
 use Rattle.alg_terms.specs.Names.{IsName}
@@ -207,16 +207,16 @@ module _ (file : File) (text : List ℕ) (valid : IsValid file) where
       extends_goal e method method_at well names sorts room (omega arith)
 
 -- each member and each use takes a byte of the text
-few_members : (text : List ℕ) (at : ℕ) (raw : Raw) → length text ≤ 16777216 → IsWellRead text at raw →
+few_members : (text : List ℕ) (at : ℕ) (raw : Raw) → length text ≤ MAX_TEXT → IsWellRead text at raw →
     raw.kind ≢ raws.End → members_in raw.kind ≤ MAX_USES
 few_members text at raw size well goes =
     let inside = well.stops.0 in
     let long = well.long goes in
-    let all : members_in raw.kind ≤ 16777216 = omega arith in
+    let all : members_in raw.kind ≤ MAX_TEXT = omega arith in
     grind (arith)
 
 -- a valid file with one more statement, which was read and has no fault, is valid
-pub extended_is_valid : (file : File) (text : List ℕ) (at : ℕ) (raw : Raw) → IsValid file → length text ≤ 16777216 →
+pub extended_is_valid : (file : File) (text : List ℕ) (at : ℕ) (raw : Raw) → IsValid file → length text ≤ MAX_TEXT →
     IsWellRead text at raw → HasRoom file raw.kind → first_fault file text raw ≡ None →
     IsValid (extended file text raw.kind)
 extended_is_valid file text at raw valid size well room h =

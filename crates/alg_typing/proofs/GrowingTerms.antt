@@ -3,13 +3,44 @@ use Rattle.std.proofs.Common.{◌≡◌, ℕ, Option, Some, refl, ap, ◌∙◌,
 use Rattle.std.specs.Option.{option_or}
 use Rattle.alg_terms.specs.declared.file.File.{File}
 use Rattle.alg_terms.specs.declared.term.Term.{Term, more_of-Term, Var, Int, Neg', Add', Sub', Mul', Div', Pow', Hom'}
+use Rattle.alg_terms.specs.declared.term.Term.TheOpen.{Term-F}
+use Rattle.alg_terms.specs.Members.{source_of}
 use Rattle.alg_terms.specs.Nodes.{fold_term, EachNode}
-use Rattle.alg_terms.specs.Sorts.{own_sort}
+use Rattle.alg_terms.specs.Sorts.{own_sort, Agree}
 use Rattle.alg_terms.specs.TermRules.{IsTerm, IsInRange, HasAgreeingParts, HasFittingArgument}
+use Rattle.alg_terms.proofs.EveryNode.{OfParts, nodes_imply}
 use Rattle.alg_typing.proofs.Growing.{Grows, source_same, target_same, sort_same, agree_same}
 
 pub or_same : (a b a' b' : Option ℕ) → a' ≡ a → b' ≡ b → option_or a' b' ≡ option_or a b
 or_same a b a' b' p q = ap (λ s. option_or s b') p ∙ ap (λ s. option_or a s) q
+
+-- where terms of which R holds have the same own sorts in two files, and their morphisms the same sources
+module _ (R : Term-F Term → Type 0) (old new : File)
+    (own : (t : Term) → EachNode R t → own_sort new t ≡ own_sort old t)
+    (source : (f : ℕ) (t : Term) → R (Term-F.Hom f t) → source_of new f ≡ source_of old f) where
+  agree_kept : (t u : Term) → EachNode R t × EachNode R u → Agree (own_sort old t) (own_sort old u) →
+      Agree (own_sort new t) (own_sort new u)
+  agree_kept t u parts h = agree_same _ _ _ _ (own t parts.0) (own u parts.1) h
+
+  parts_node : (n : Term-F Term) → R n → OfParts R n → HasAgreeingParts old n → HasAgreeingParts new n
+  parts_node (Term-F.Add t u) r parts h = agree_kept t u parts h
+  parts_node (Term-F.Sub t u) r parts h = agree_kept t u parts h
+  parts_node (Term-F.Mul t u) r parts h = agree_kept t u parts h
+  parts_node (Term-F.Div t u) r parts h = agree_kept t u parts h
+  parts_node _ r parts h = tt
+
+  -- parts that agreed agree still
+  pub parts_kept : (t : Term) → EachNode R t → EachNode (HasAgreeingParts old) t → EachNode (HasAgreeingParts new) t
+  parts_kept = nodes_imply R (HasAgreeingParts old) (HasAgreeingParts new) parts_node
+
+  argument_node : (n : Term-F Term) → R n → OfParts R n → HasFittingArgument old n → HasFittingArgument new n
+  argument_node (Term-F.Hom f t) r part h = agree_same _ _ _ _ (own t part) (ap Some (source f t r)) h
+  argument_node _ r part h = tt
+
+  -- arguments that fitted fit still
+  pub arguments_kept : (t : Term) → EachNode R t → EachNode (HasFittingArgument old) t →
+      EachNode (HasFittingArgument new) t
+  arguments_kept = nodes_imply R (HasFittingArgument old) (HasFittingArgument new) argument_node
 
 module _ (old new : File) (grows : Grows old new) where
   -- a term in range has the own sort that it had
@@ -26,56 +57,16 @@ module _ (old new : File) (grows : Grows old new) where
   own_same (Hom' f _ (more_of-Term t _)) r = ap Some (target_same old new grows f r.0)
 
   -- a term in range is in range still
+  range_node : (n : Term-F Term) → IsInRange old n → OfParts (IsInRange old) n → IsInRange old n → IsInRange new n
+  range_node (Term-F.Var k) r parts h = omega (arith, grows.more_vars)
+  range_node (Term-F.Hom f t) r parts h = omega (arith, grows.more_homs, r)
+  range_node _ r parts h = tt
+
   pub range_same : (t : Term) → EachNode (IsInRange old) t → EachNode (IsInRange new) t
-  unfolding EachNode
-  range_same (Var k) r = omega (arith, grows.more_vars)
-  range_same (Int n) r = tt
-  range_same (Neg' _ (more_of-Term t _)) r = (tt, range_same t r.1)
-  range_same (Add' _ (more_of-Term t _) _ (more_of-Term u _)) r = (tt, range_same t r.1, range_same u r.2)
-  range_same (Sub' _ (more_of-Term t _) _ (more_of-Term u _)) r = (tt, range_same t r.1, range_same u r.2)
-  range_same (Mul' _ (more_of-Term t _) _ (more_of-Term u _)) r = (tt, range_same t r.1, range_same u r.2)
-  range_same (Div' _ (more_of-Term t _) _ (more_of-Term u _)) r = (tt, range_same t r.1, range_same u r.2)
-  range_same (Pow' _ (more_of-Term t _) n) r = (tt, range_same t r.1)
-  range_same (Hom' f _ (more_of-Term t _)) r = (omega (arith, grows.more_homs, r.0), range_same t r.1)
+  range_same t r = nodes_imply (IsInRange old) (IsInRange old) (IsInRange new) range_node t r r
 
-  -- parts that agreed agree still
-  pub parts_same : (t : Term) → EachNode (IsInRange old) t → EachNode (HasAgreeingParts old) t →
-      EachNode (HasAgreeingParts new) t
-  unfolding EachNode
-  parts_same (Var k) r h = tt
-  parts_same (Int n) r h = tt
-  parts_same (Neg' _ (more_of-Term t _)) r h = (tt, parts_same t r.1 h.1)
-  parts_same (Add' _ (more_of-Term t _) _ (more_of-Term u _)) r h =
-      (agree_same _ _ _ _ (own_same t r.1) (own_same u r.2) h.0, parts_same t r.1 h.1, parts_same u r.2 h.2)
-  parts_same (Sub' _ (more_of-Term t _) _ (more_of-Term u _)) r h =
-      (agree_same _ _ _ _ (own_same t r.1) (own_same u r.2) h.0, parts_same t r.1 h.1, parts_same u r.2 h.2)
-  parts_same (Mul' _ (more_of-Term t _) _ (more_of-Term u _)) r h =
-      (agree_same _ _ _ _ (own_same t r.1) (own_same u r.2) h.0, parts_same t r.1 h.1, parts_same u r.2 h.2)
-  parts_same (Div' _ (more_of-Term t _) _ (more_of-Term u _)) r h =
-      (agree_same _ _ _ _ (own_same t r.1) (own_same u r.2) h.0, parts_same t r.1 h.1, parts_same u r.2 h.2)
-  parts_same (Pow' _ (more_of-Term t _) n) r h = (tt, parts_same t r.1 h.1)
-  parts_same (Hom' f _ (more_of-Term t _)) r h = (tt, parts_same t r.1 h.1)
-
-  -- arguments that fitted fit still
-  pub arguments_same : (t : Term) → EachNode (IsInRange old) t → EachNode (HasFittingArgument old) t →
-      EachNode (HasFittingArgument new) t
-  unfolding EachNode
-  arguments_same (Var k) r h = tt
-  arguments_same (Int n) r h = tt
-  arguments_same (Neg' _ (more_of-Term t _)) r h = (tt, arguments_same t r.1 h.1)
-  arguments_same (Add' _ (more_of-Term t _) _ (more_of-Term u _)) r h =
-      (tt, arguments_same t r.1 h.1, arguments_same u r.2 h.2)
-  arguments_same (Sub' _ (more_of-Term t _) _ (more_of-Term u _)) r h =
-      (tt, arguments_same t r.1 h.1, arguments_same u r.2 h.2)
-  arguments_same (Mul' _ (more_of-Term t _) _ (more_of-Term u _)) r h =
-      (tt, arguments_same t r.1 h.1, arguments_same u r.2 h.2)
-  arguments_same (Div' _ (more_of-Term t _) _ (more_of-Term u _)) r h =
-      (tt, arguments_same t r.1 h.1, arguments_same u r.2 h.2)
-  arguments_same (Pow' _ (more_of-Term t _) n) r h = (tt, arguments_same t r.1 h.1)
-  arguments_same (Hom' f _ (more_of-Term t _)) r h = (
-    agree_same _ _ _ _ (own_same t r.1) (ap Some (source_same old new grows f r.0)) h.0,
-    arguments_same t r.1 h.1,
-  )
+  same_source : (f : ℕ) (t : Term) → IsInRange old (Term-F.Hom f t) → source_of new f ≡ source_of old f
+  same_source f t r = source_same old new grows f r
 
   -- a term of the file is one of the grown file
   pub term_same : (t : Term) → IsTerm old t → IsTerm new t
@@ -84,6 +75,6 @@ module _ (old new : File) (grows : Grows old new) where
     literals = h.literals;
     exponents = h.exponents;
     depth = h.depth;
-    parts = parts_same t h.indices h.parts;
-    arguments = arguments_same t h.indices h.arguments;
+    parts = parts_kept (IsInRange old) old new own_same same_source t h.indices h.parts;
+    arguments = arguments_kept (IsInRange old) old new own_same same_source t h.indices h.arguments;
   }

@@ -26,8 +26,10 @@ pub mod RawBuilt
 pub mod RawParts
 pub mod Resolving
 pub mod Small
+pub mod SortLaws
 pub mod SortSteps
 pub mod Sorted
+pub mod SortsClear
 pub mod SortedTerms
 pub mod Tables
 pub mod VarTables

@@ -2,6 +2,7 @@
 use Rattle.std.proofs.Common.{◌≡◌, ◌≢◌, ◌≤◌, ◌<◌, ◌-◌, Fits, w32, inl, inr, ℕ, false, List, [], ◌∷◌, None, Some, Result, Ok, Err, IfOk, IfErr, All, IsErrAnd, refl, sym, subst, arith}
 use Rattle.std.specs.Str.{IsUtf8}
 use Rattle.std.proofs.lemmas.List.Elements.{All-append, All-cons, All-nil}
+use Rattle.alg_terms.specs.Limits.{MAX_TEXT}
 use Rattle.alg_terms.specs.declared.file.File.{File}
 use Rattle.alg_terms.specs.Valid.{IsValid}
 use Rattle.alg_terms.specs.declared.goals.Method.TheVariants.{ByRing}
@@ -78,7 +79,7 @@ pub smaller : (size at stop : ℕ) → at < stop → stop ≤ size → size - st
 smaller size at stop less inside = omega arith
 
 -- where a text stops being one fits 32 bits
-pub small_place : (n size : ℕ) → n < size → size ≤ 16777216 → Fits w32 n
+pub small_place : (n size : ℕ) → n < size → size ≤ MAX_TEXT → Fits w32 n
 small_place n size less most = grind (arith)
 
 -- an error that is passed on tells what it told

@@ -1,8 +1,8 @@
 -- Each member of a file takes a byte of its text at least, so that there is room for the next statement.
-use Rattle.std.proofs.Common.{◌≡◌, ◌≢◌, ◌≤◌, ◌<◌, ◌+◌, ◌-◌, ℕ, List, [], ◌∷◌, ◌++◌, length, length-append, le_refl, refl, sym, subst, arith}
+use Rattle.std.proofs.Common.{◌≡◌, ◌≢◌, ◌≤◌, ◌<◌, ◌+◌, ℕ, List, [], ◌∷◌, ◌++◌, length, length-append, le_refl, refl, sym, subst, arith}
 use Rattle.std.proofs.lemmas.List.{length-map}
 use Rattle.alg_terms.specs.declared.file.File.{File}
-use Rattle.alg_terms.specs.Limits.{MEMBERS_END}
+use Rattle.alg_terms.specs.Limits.{MEMBERS_END, MAX_TEXT}
 use Rattle.alg_reader.specs.declared.raw.RawKind.{RawKind}
 use Rattle.alg_reader.specs.declared.raw.RawKind.TheVariants as raws
 use Rattle.alg_reader.specs.declared.reading.Raw.{Raw}
@@ -116,14 +116,14 @@ module _ (file : File) (text : List ℕ) (at start stop : ℕ) (few : HasAtMost 
         order = one_more file.order _ at start stop few.order starts one;
       }
 
-fits : (n at start stop m size : ℕ) → n ≤ at → at ≤ start → start + m ≤ stop → stop ≤ size → size ≤ 16777216 →
+fits : (n at start stop m size : ℕ) → n ≤ at → at ≤ start → start + m ≤ stop → stop ≤ size → size ≤ MAX_TEXT →
     n + m < MEMBERS_END
 fits n at start stop m size most starts long inside least =
-    let all : n + m ≤ 16777216 = omega arith in grind (arith)
+    let all : n + m ≤ MAX_TEXT = omega arith in grind (arith)
 
 -- the list to which the statement adds has room
 fits_in : (file : File) (kind : RawKind) (at start stop size : ℕ) → HasAtMost file at → at ≤ start →
-    start + members_in kind ≤ stop → start + 1 ≤ stop → stop ≤ size → size ≤ 16777216 → HasRoomIn file kind
+    start + members_in kind ≤ stop → start + 1 ≤ stop → stop ≤ size → size ≤ MAX_TEXT → HasRoomIn file kind
 fits_in file raws.End at start stop size few starts long one inside least = tt
 fits_in file (raws.Sort kind name char0) at start stop size few starts long one inside least =
     fits _ at start stop 1 size few.sorts starts one inside least
@@ -137,7 +137,7 @@ fits_in file (raws.Goal e method place) at start stop size few starts long one i
     fits _ at start stop 1 size few.goals starts one inside least
 
 module _ (file : File) (text : List ℕ) (at : ℕ) (raw : Raw) (few : HasAtMost file at) (well : IsWellRead text at raw)
-    (goes : raw.kind ≢ raws.End) (size : length text ≤ 16777216) where
+    (goes : raw.kind ≢ raws.End) (size : length text ≤ MAX_TEXT) where
   longer : raw.start + 1 ≤ raw.stop
   longer =
       let least = at_least_one text raw.kind well.kind goes in

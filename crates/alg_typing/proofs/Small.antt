@@ -4,11 +4,9 @@ use Rattle.std.specs.Int.RustNames.{unsigned_abs}
 use Rattle.std.specs.Option.{option_or}
 use Rattle.std.proofs.lemmas.Bool.Decides.{nat_tests}
 use Rattle.std.proofs.lemmas.List.Elements.{All-append, All-cons, All-nil}
-use Rattle.alg_terms.proofs.Built.{fold_term-Var, fold_term-Int, fold_term-Neg, fold_term-Add, fold_term-Sub, fold_term-Mul, fold_term-Div, fold_term-Pow, fold_term-Hom}
 use Rattle.alg_terms.specs.declared.file.File.{File}
-use Rattle.alg_terms.specs.Limits.{MAX_EXPONENT, MIN_POWER, MAX_POWER, MIN_LIMIT, MAX_LIMIT}
-use Rattle.alg_terms.specs.Nodes.{fold_term}
-use Rattle.alg_terms.specs.Sorts.{node_sort, equation_sort}
+use Rattle.alg_terms.specs.Limits.{MIN_POWER, MAX_POWER, MIN_LIMIT, MAX_LIMIT}
+use Rattle.alg_terms.specs.Sorts.{equation_sort}
 use Rattle.alg_tokens.specs.declared.code.Code.TheVariants as code
 use Rattle.alg_reader.specs.declared.raw.RawEquation.{RawEquation}
 use Rattle.alg_reader.specs.declared.raw.RawMethod.{RawMethod}
@@ -18,7 +16,7 @@ use Rattle.alg_reader.specs.declared.raw.RawNumber.{RawNumber}
 use Rattle.alg_reader.specs.declared.raw.RawTerm.{RawTerm}
 use Rattle.alg_reader.specs.RawTerms.{fold_under, exponents_of_node}
 use Rattle.alg_reader.specs.WellRead.{IsWellEquation, IsWellTerm}
-use Rattle.alg_typing.specs.Resolved.{node_term, term_of, number_at}
+use Rattle.alg_typing.specs.Resolved.{term_of}
 use Rattle.alg_typing.specs.SortFaults.{option_range, equation_sorts, method_sorts, sort_of_sides}
 use Rattle.alg_typing.specs.TermSorts.{sorted, node_sorted, exponent}
 use Rattle.alg_typing.specs.TermsOf.{IsExponent, IsSmallTermOf, HasSmallOptions}

@@ -27,6 +27,10 @@ exponent_in_range n h =
     let low : nat_lt MAX_EXPONENT (unsigned_abs n.value) ≡ false = no_fault _ code.Exponent n.at h in
     grind (arith, nat_tests)
 
+-- the rules of exponents and sorts
+abbrev pub KeepsRules : File → Term → Type 0
+KeepsRules file t = EachNode HasExponent t × EachNode (HasAgreeingParts file) t × EachNode (HasFittingArgument file) t
+
 module _ (file : File) (text : List ℕ) where
   -- literals in range stay so
   pub literals : (head : ℕ) (node : RawNode) → AllByRecursion (λ n. (pos 0 ≤ℤ n) × (n ≤ℤ MAX_LITERAL))
@@ -56,12 +60,8 @@ module _ (file : File) (text : List ℕ) where
       subst (λ s. Agree s (own_sort file (resolved file text l u))) (own_resolved file text b k t)
       (subst (λ s. Agree (sorted_under file text b k t).own s) (own_resolved file text b l u) (agree_if _ _ h))
 
-  -- the rules of exponents and sorts
-  abbrev pub KeepsRules : Term → Type 0
-  KeepsRules t = EachNode HasExponent t × EachNode (HasAgreeingParts file) t × EachNode (HasFittingArgument file) t
-
   pub rules_kept : (b : Bool) (head : ℕ) (node : RawNode) (final : Option ℕ) (in_fields : Bool) →
-      (sorted_under file text b head node).faults final in_fields ≡ [] → KeepsRules (resolved file text head node)
+      (sorted_under file text b head node).faults final in_fields ≡ [] → KeepsRules file (resolved file text head node)
   unfolding fold_under EachNode
       Rattle.alg_terms.specs.declared.term.Term.TheBlock.hidden-the_row-Term-0 denote.Hole.Carrier.hidden
   rules_kept b head (Var name) final in_fields h = (tt, tt, tt)

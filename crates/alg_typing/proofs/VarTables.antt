@@ -12,7 +12,6 @@ use Rattle.alg_reader.specs.declared.raw.Span.{Span}
 use Rattle.alg_reader.specs.WellRead.{bytes_at}
 use Rattle.alg_typing.specs.declared.declaration.Declaration.{Declaration}
 use Rattle.alg_typing.specs.declared.declaration.Declaration.TheVariants as as_a
-use Rattle.alg_typing.specs.Faults.{fault_if}
 use Rattle.alg_typing.specs.NameFaults.{new_name, new_names}
 use Rattle.alg_typing.specs.Names.{declared_as}
 use Rattle.alg_typing.specs.Table.{Table, find, IsTableOf, AreNew, var_entries}

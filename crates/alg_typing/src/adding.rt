@@ -1,6 +1,7 @@
 //! Statements that are added to the file so far, or refused at their first fault.
 
 ghost use Rattle.std.specs.Prelude.{◌≡◌, ◌≤◌, ℕ, length, None, Some, IfOk, IfErr, OnOk, OnErr};
+ghost use Rattle.alg_terms.specs.Limits.{MAX_TEXT};
 ghost use Rattle.alg_terms.specs.Valid.{IsValid};
 ghost use Rattle.alg_reader.specs.WellRead.{IsWellKind, IsWellRead};
 ghost use Rattle.alg_typing.specs.Ends.{RefusesWith};
@@ -38,7 +39,7 @@ impl Declared {
     /// are declared so far. Where it fails nothing is changed. Linear in the statement.
     #[tactic(none)]
     pub fn add(&mut self, alloc: Global, text: &str, raw: Raw) -> Result<(), FileEnd>
-        requires size { length text.now ≤ 16777216 }
+        requires size { length text.now ≤ MAX_TEXT }
         requires well_read { (at : ℕ) × IsWellRead text.now at raw }
         requires room { HasRoom self.old raw.kind }
         ensures ok { OnOk result
@@ -56,7 +57,7 @@ impl Declared {
     /// Adds a statement that was read from the text, or tells its first fault.
     #[tactic(none)]
     fn add_read(&mut self, alloc: Global, text: &str, raw: &Raw) -> Result<(), FileEnd>
-        requires size { length text.now ≤ 16777216 }
+        requires size { length text.now ≤ MAX_TEXT }
         requires well_read { (at : ℕ) × IsWellRead text.now at raw.now }
         requires room { HasRoom self.old raw.now.kind }
         ensures ok { OnOk result ((first_fault self.old text.now raw.now ≡ None)
@@ -89,7 +90,7 @@ impl Declared {
     /// Adds a statement without fault. Where there is no memory nothing is changed.
     fn extend(&mut self, alloc: Global, text: &str, raw: &Raw) -> Result<(), NoMemory>
         requires valid { IsValid self.old }
-        requires size { length text.now ≤ 16777216 }
+        requires size { length text.now ≤ MAX_TEXT }
         requires well_read { (at : ℕ) × IsWellRead text.now at raw.now }
         requires room { HasRoom self.old raw.now.kind }
         requires faultless { first_fault self.old text.now raw.now ≡ None }

@@ -3,7 +3,7 @@
 use crate::FileEnd;
 use crate::reading::read_declared;
 use alg_reader::{Place, RawKind, read_statement};
-use alg_terms::{NoMemory, Term, same};
+use alg_terms::{GREATEST_TEXT, NoMemory, Term, same};
 use alg_tokens::Refusal;
 use sqlite_items::Boxed;
 use std::alloc::Global;
@@ -21,7 +21,7 @@ const FILE: &str = "ring R. ring S. hom f : R -> S. var x : R. var y : S. goal y
 
 /// The left side of the goal that this text is, as a term of an answer to the file's goal.
 fn typed(alloc: Global, text: &str) -> Result<Term, FileEnd> {
-    if FILE.len() > 16_777_216 || text.len() > 16_777_216 {
+    if FILE.len() > GREATEST_TEXT || text.len() > GREATEST_TEXT {
         return Err(FileEnd::NoMemory);
     }
     let declared = read_declared(alloc, FILE)?;

@@ -111,19 +111,14 @@ impl Declared {
         let known = self.names.len();
         self.names.add(alloc, name, Declaration::Sort(number))?;
         let file = &mut self.file;
-        match declare(
+        let declared = declare(
             alloc,
             &mut file.sorts,
             sorts,
             &mut file.order,
             Statement::Sort(number),
-        ) {
-            Ok(()) => Ok(()),
-            Err(error) => {
-                self.names.truncate(known);
-                Err(error)
-            }
-        }
+        );
+        self.names.keep_if(declared, known)
     }
 
     /// Adds a morphism between two sorts.
@@ -154,19 +149,14 @@ impl Declared {
         let known = self.names.len();
         self.names.add(alloc, name, Declaration::Hom(number))?;
         let file = &mut self.file;
-        match declare(
+        let declared = declare(
             alloc,
             &mut file.homs,
             homs,
             &mut file.order,
             Statement::Hom(number),
-        ) {
-            Ok(()) => Ok(()),
-            Err(error) => {
-                self.names.truncate(known);
-                Err(error)
-            }
-        }
+        );
+        self.names.keep_if(declared, known)
     }
 
     /// Adds variables of one sort.
@@ -191,19 +181,14 @@ impl Declared {
         let known = self.names.len();
         self.names.add_vars(alloc, text, names, first)?;
         let file = &mut self.file;
-        match declare(
+        let declared = declare(
             alloc,
             &mut file.vars,
             vars,
             &mut file.order,
             Statement::Vars { first, count },
-        ) {
-            Ok(()) => Ok(()),
-            Err(error) => {
-                self.names.truncate(known);
-                Err(error)
-            }
-        }
+        );
+        self.names.keep_if(declared, known)
     }
 
     /// Adds a hypothesis.
@@ -234,19 +219,14 @@ impl Declared {
         let known = self.names.len();
         self.names.add(alloc, name, Declaration::Hyp(number))?;
         let file = &mut self.file;
-        match declare(
+        let declared = declare(
             alloc,
             &mut file.hyps,
             hyps,
             &mut file.order,
             Statement::Hyp(number),
-        ) {
-            Ok(()) => Ok(()),
-            Err(error) => {
-                self.names.truncate(known);
-                Err(error)
-            }
-        }
+        );
+        self.names.keep_if(declared, known)
     }
 
     /// Adds a goal.

@@ -91,6 +91,23 @@ impl Names {
         Ok(())
     }
 
+    /// Hands on whether the members were added that the names behind the first `known` are of, and
+    /// takes these names back where they were not.
+    pub(crate) fn keep_if(
+        &mut self,
+        added: Result<(), NoMemory>,
+        known: usize,
+    ) -> Result<(), NoMemory>
+        ensures result { result ≡ added }
+        ensures ok { OnOk added (self.new ≡ self.old) }
+        ensures err { OnErr added (self.new ≡ take known self.old) }
+    {
+        if added.is_err() {
+            self.truncate(known);
+        }
+        added
+    }
+
     /// Keeps the first names alone.
     pub(crate) fn truncate(&mut self, len: usize)
         ensures { self.new ≡ take len self.old }

@@ -1,6 +1,7 @@
 //! The file that a text is, or its first fault.
 
 ghost use Rattle.std.specs.Prelude.{◌≡◌, ◌≤◌, length, All, Ok, Err, IfOk, IfErr};
+ghost use Rattle.alg_terms.specs.Limits.{MAX_TEXT};
 ghost use Rattle.alg_terms.specs.Valid.{IsValid};
 ghost use Rattle.alg_reader.specs.Tokens.{unread_at};
 ghost use Rattle.alg_typing.specs.Ends.{RefusesWith, IsByRing};
@@ -17,7 +18,7 @@ use std::str;
 /// faults of statements, and an earlier statement's fault before a later one's. Linear in the bytes.
 #[tactic(none)]
 pub fn read_file(alloc: Global, bytes: &[u8]) -> Result<File, FileEnd>
-    requires { length bytes.now ≤ 16777216 }
+    requires { length bytes.now ≤ MAX_TEXT }
     ensures ok { IfOk result (λ file. IsReadingOf bytes.now (Ok file) × IsValid file) }
     ensures refused { IfErr result (λ end. RefusesWith end (λ fault. IsReadingOf bytes.now (Err fault))) }
     ensures by_ring { IfOk result (λ file. All IsByRing file.goals) }
@@ -34,7 +35,7 @@ pub fn read_file(alloc: Global, bytes: &[u8]) -> Result<File, FileEnd>
 /// The file that a text is, or its first fault.
 #[tactic(none)]
 fn read_text(alloc: Global, text: &str) -> Result<File, FileEnd>
-    requires { length text.now ≤ 16777216 }
+    requires { length text.now ≤ MAX_TEXT }
     ensures ok { IfOk result (λ file. ReadsFile (unread_at Place.Plain) text.now 0 no_statements (Ok file)
         × IsValid file) }
     ensures refused { IfErr result
@@ -47,7 +48,7 @@ fn read_text(alloc: Global, text: &str) -> Result<File, FileEnd>
 /// The file that a text is, with the table of its names, or its first fault.
 #[tactic(none)]
 pub(crate) fn read_declared(alloc: Global, text: &str) -> Result<Declared, FileEnd>
-    requires { length text.now ≤ 16777216 }
+    requires { length text.now ≤ MAX_TEXT }
     ensures ok { IfOk result (λ file. ReadsFile (unread_at Place.Plain) text.now 0 no_statements (Ok file)) }
     ensures refused { IfErr result
         (λ end. RefusesWith end (λ fault. ReadsFile (unread_at Place.Plain) text.now 0 no_statements (Err fault))) }

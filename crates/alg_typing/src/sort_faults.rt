@@ -4,6 +4,7 @@ ghost use Rattle.std.specs.Prelude.{◌≡◌, ℕ, List, All, flat_map};
 ghost use Rattle.alg_terms.specs.declared.file.File.{File};
 ghost use Rattle.alg_reader.specs.WellRead.{IsNameAt, IsWellEquation, IsWellUse, IsWellMethod, IsWellKind};
 ghost use Rattle.alg_typing.specs.Faults.{first_of};
+ghost use Rattle.alg_typing.specs.TermsOf.{IsTermOf};
 ghost use Rattle.alg_typing.specs.SortFaults.{sort_of_sides, equation_sorts, sort_along, path_sorts, is_bad_unequal, use_sorts, method_sorts, option_range, may_divide_by, start_of, sort_faults};
 
 use crate::faults::{earlier, fault_where};
@@ -52,8 +53,9 @@ fn option_fault(low: u32, high: u32, number: Option<RawNumber>) -> Option<Refusa
 
 impl Scope<'_> {
     /// The sort of an equation, where a side has an own sort.
-    fn sort_of_sides(&self, e: &RawEquation) -> Option<u32>
-        requires { IsWellEquation self.now.text.now e.now }
+    pub(crate) fn sort_of_sides(&self, e: &RawEquation) -> Option<u32>
+        requires left { IsTermOf self.now.text.now e.now.left }
+        requires right { IsTermOf self.now.text.now e.now.right }
         ensures { result ≡ sort_of_sides self.now.declared.now self.now.text.now e.now }
     {
         self.own_sort(&e.left).or(self.own_sort(&e.right))

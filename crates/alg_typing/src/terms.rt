@@ -67,7 +67,7 @@ impl Scope<'_> {
         ensures { IfOk result
             (λ equation. equation ≡ equation_of self.now.declared.now self.now.text.now e.now) }
     {
-        let sort = self.own_sort(&e.left).or(self.own_sort(&e.right));
+        let sort = self.sort_of_sides(e);
         let left = self.term_of(alloc, &e.left)?;
         let right = self.term_of(alloc, &e.right)?;
         Ok(Equation {

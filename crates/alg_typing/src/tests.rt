@@ -5,6 +5,7 @@ mod readings;
 
 use crate::laws::one_reading;
 use crate::{Declared, FileEnd, read_file};
+use alg_terms::GREATEST_TEXT;
 use alg_tokens::Refusal;
 use std::alloc::Global;
 
@@ -18,7 +19,7 @@ enum Found {
 
 /// What these bytes are, which are not too many.
 fn read(alloc: Global, bytes: &[u8]) -> Found {
-    if bytes.len() > 16_777_216 {
+    if bytes.len() > GREATEST_TEXT {
         return Found::NoMemory;
     }
     match read_file(alloc, bytes) {

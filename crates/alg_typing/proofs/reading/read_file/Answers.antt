@@ -1,5 +1,6 @@
 use Rattle.std.proofs.Common.{◌<◌, ◌≤◌, List, ℕ, length, sym, subst, inr, ap, Err}
 use Rattle.std.specs.Str.{IsUtf8, IsValidUpTo}
+use Rattle.alg_terms.specs.Limits.{MAX_TEXT}
 use Rattle.alg_typing.proofs.ReadingSteps.{small_place, read_all, told_all}
 use Rattle.alg_typing.proofs.reading.read_file.Goals as goal
 
@@ -8,7 +9,7 @@ pub read_text-requires-text-text : goal.read_text-requires-text-text
 read_text-requires-text-text c = λ _. subst IsUtf8 (sym c.in-Ok.ensures.cases.0) c.in-Ok.ensures.cases.1
 
 pub read_text-requires : goal.read_text-requires
-read_text-requires c = subst (λ (t : List ℕ). length t ≤ 16777216) (sym c.in-Ok.ensures.cases.0) c.requires
+read_text-requires c = subst (λ (t : List ℕ). length t ≤ MAX_TEXT) (sym c.in-Ok.ensures.cases.0) c.requires
 
 pub returns-in-Ok-clause-ok : goal.returns-in-Ok-clause-ok
 returns-in-Ok-clause-ok c =

@@ -7,13 +7,14 @@ use Rattle.alg_reader.specs.WellRead.{bytes_at}
 use Rattle.alg_typing.specs.declared.declaration.Declaration.TheVariants as as_a
 use Rattle.alg_typing.specs.Names.{declared_as}
 use Rattle.alg_typing.specs.Additions.{with_hom}
-use Rattle.alg_typing.proofs.Kept.{kept, taken_back}
+use Rattle.alg_typing.specs.Table.{IsTableOf}
+use Rattle.alg_typing.proofs.Kept.{either_way, kept, not_declared}
 use Rattle.alg_typing.proofs.Tables.{table_with_hom}
 use Rattle.alg_typing.proofs.declared.Declared.add_hom.Goals as goal
 
--- the morphism and its name were added
-pub invariant_of-self-in-Ok : goal.invariant_of-self-in-Ok
-invariant_of-self-in-Ok c =
+-- the morphism and its name were added, or neither was
+pub invariant_of-self-2 : goal.invariant_of-self-2
+invariant_of-self-2 c =
     let file = c.self.inside.file in
     let names = c.self.inside.names in
     let text = c.args.text.now in
@@ -22,21 +23,20 @@ invariant_of-self-in-Ok c =
     let members : c.in_ok-homs.homs.items ≡ hom ∷ [] =
     c.in_ok-homs.ensures.items
     ∙ ap (λ b. record { name = b; from = c.args.from; to = c.args.to } ∷ []) (c.in_ok-new.ensures ∙ bytes) in
-    let list = c.in-Ok.ensures.list_ok ∙ ap (λ m. file.homs ++ m) members in
     let count = ap (length {A = HomDecl}) c.items.ensures in
-    let order = c.in-Ok.ensures.order_ok ∙ ap (λ n. file.order ++ statement.Hom n ∷ []) count in
+    let new : File = record file { homs = c.declare-declared.new.list; order = c.declare-declared.new.order } in
+    either_way c.declare-declared.result (IsTableOf new c.keep_if.new.self × IsValid new)
+    c.declare-declared.ensures.list_ok c.declare-declared.ensures.order_ok c.keep_if.ensures.ok
+    c.declare-declared.ensures.list_err c.declare-declared.ensures.order_err c.keep_if.ensures.err
+    (λ list_ok order_ok is_last.
+    let list = list_ok ∙ ap (λ m. file.homs ++ m) members in
+    let order = order_ok ∙ ap (λ n. file.order ++ statement.Hom n ∷ []) count in
     kept (with_hom file hom) _ (names ++ (hom.name, as_a.Hom (length file.homs)) ∷ []) _
     (λ i. record file { homs = list i; order = order i })
-    (c.in_ok-add.ensures.ok ∙ (λ i. names ++ (bytes i, as_a.Hom (count i)) ∷ []))
+    (is_last ∙ c.in_ok-add.ensures.ok ∙ (λ i. names ++ (bytes i, as_a.Hom (count i)) ∷ []))
     (table_with_hom file names c.self.invariant.0 (file.order ++ statement.Hom (length file.homs) ∷ []) hom
     (ap (λ f. declared_as f hom.name) c.self.view_is ∙ c.requires.fresh))
-    (subst (λ (f : File). IsValid (with_hom f hom)) (sym c.self.view_is) c.requires.valid)
-
--- neither was added
-pub invariant_of-self-in-Err : goal.invariant_of-self-in-Err
-invariant_of-self-in-Err c =
-    let file = c.self.inside.file in
-    kept file _ c.self.inside.names _
-    (λ i. record file { homs = c.in-Err.ensures.list_err i; order = c.in-Err.ensures.order_err i })
-    (taken_back c.self.inside.names _ _ _ _ c.len-known.ensures c.in_ok-add.ensures.ok c.truncate.ensures)
-    c.self.invariant.0 c.self.invariant.1
+    (subst (λ (f : File). IsValid (with_hom f hom)) (sym c.self.view_is) c.requires.valid))
+    (λ list_err order_err is_last. not_declared file _ names _ _ _ _
+    (λ i. record file { homs = list_err i; order = order_err i })
+    c.len-known.ensures c.in_ok-add.ensures.ok is_last c.self.invariant)

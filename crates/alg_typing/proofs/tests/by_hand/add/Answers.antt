@@ -5,5 +5,5 @@ use Rattle.alg_typing.proofs.tests.by_hand.add.Goals as goal
 pub read_statement-requires-clause-boundary : goal.read_statement-requires-clause-boundary
 read_statement-requires-clause-boundary c = IsCharBoundary-start c.args.goal.now c.utf8.goal
 
-pub with_method-requires-clause-method : goal.with_method-requires-clause-method
-with_method-requires-clause-method c = c.method.ensures.well c.args.goal.now
+pub goal_by-requires-clause-method : goal.goal_by-requires-clause-method
+goal_by-requires-clause-method c = c.method.ensures.well c.args.goal.now

@@ -45,7 +45,7 @@ abbrev pub span : ℕ → List ℕ → Span
 span at bytes = record { start = at; stop = at + length bytes }
 
 -- a term in pieces: how tightly it binds, its pieces, and the raw term by the place where they begin
-pub record Laid : Type 0 where
+pub record WrittenTerm : Type 0 where
   pub level : ℕ
   pub pieces : List Piece
   pub raw : ℕ → RawTerm
@@ -54,17 +54,17 @@ abbrev pub in_parentheses : List Piece → List Piece
 in_parentheses pieces = sign signs.ParenLeft ∷ (pieces ++ sign signs.ParenRight ∷ [])
 
 -- a part where this level is wanted
-abbrev pub part_pieces : ℕ → Laid → List Piece
+abbrev pub part_pieces : ℕ → WrittenTerm → List Piece
 part_pieces wanted part = if nat_lt part.level wanted then in_parentheses part.pieces else part.pieces
 
-abbrev pub part_raw : ℕ → Laid → ℕ → RawTerm
+abbrev pub part_raw : ℕ → WrittenTerm → ℕ → RawTerm
 part_raw wanted part at = if nat_lt part.level wanted then part.raw (at + 1) else part.raw at
 
 abbrev pub raw_at : ℕ → RawNode → RawTerm
 raw_at head node = roll-RawTerm (record { head = head; node = node })
 
 -- an operator with a space on each side
-abbrev pub spaced : Sign → (RawTerm → RawTerm → RawNode) → Laid → Laid → Laid
+abbrev pub spaced : Sign → (RawTerm → RawTerm → RawNode) → WrittenTerm → WrittenTerm → WrittenTerm
 spaced op node left right = record {
   level = 1;
   pieces = part_pieces 1 left ++ (space ∷ sign op ∷ space ∷ part_pieces 2 right);
@@ -73,7 +73,7 @@ spaced op node left right = record {
 }
 
 -- an operator without spaces
-abbrev pub tight : Sign → (RawTerm → RawTerm → RawNode) → Laid → Laid → Laid
+abbrev pub tight : Sign → (RawTerm → RawTerm → RawNode) → WrittenTerm → WrittenTerm → WrittenTerm
 tight op node left right = record {
   level = 2;
   pieces = part_pieces 2 left ++ (sign op ∷ part_pieces 3 right);
@@ -81,34 +81,34 @@ tight op node left right = record {
       raw_at head (node (part_raw 2 left at) (part_raw 3 right (head + 1)));
 }
 
-abbrev pub node_laid : File → Term-F Laid → Laid
-node_laid file (Term-F.Var k) = record {
+abbrev pub node_written : File → Term-F WrittenTerm → WrittenTerm
+node_written file (Term-F.Var k) = record {
   level = 5;
   pieces = name (var_name file k) ∷ [];
   raw = λ at. raw_at at (raw.Var (span at (var_name file k)));
 }
-node_laid file (Term-F.Int n) = record { level = 5; pieces = integer n ∷ []; raw = λ at. raw_at at (raw.Int n) }
-node_laid file (Term-F.Neg part) = record {
+node_written file (Term-F.Int n) = record { level = 5; pieces = integer n ∷ []; raw = λ at. raw_at at (raw.Int n) }
+node_written file (Term-F.Neg part) = record {
   level = 3;
   pieces = sign signs.Minus ∷ part_pieces 3 part;
   raw = λ at. raw_at at (raw.Neg (part_raw 3 part (at + 1)));
 }
-node_laid file (Term-F.Add left right) = spaced signs.Plus raw.Add left right
-node_laid file (Term-F.Sub left right) = spaced signs.Minus raw.Sub left right
-node_laid file (Term-F.Mul left right) = tight signs.Star raw.Mul left right
-node_laid file (Term-F.Div left right) = tight signs.Slash raw.Div left right
-node_laid file (Term-F.Pow part n) = record {
+node_written file (Term-F.Add left right) = spaced signs.Plus raw.Add left right
+node_written file (Term-F.Sub left right) = spaced signs.Minus raw.Sub left right
+node_written file (Term-F.Mul left right) = tight signs.Star raw.Mul left right
+node_written file (Term-F.Div left right) = tight signs.Slash raw.Div left right
+node_written file (Term-F.Pow part n) = record {
   level = 4;
   pieces = part_pieces 5 part ++ (sign signs.Caret ∷ numeral n ∷ []);
   raw = λ at. let head = at + width (part_pieces 5 part) in
       raw_at head (raw.Pow (part_raw 5 part at) (record { value = pos n; at = head + 1 }));
 }
-node_laid file (Term-F.Hom f part) = record {
+node_written file (Term-F.Hom f part) = record {
   level = 5;
   pieces = name (hom_name file f) ∷ in_parentheses part.pieces;
   raw = λ at. raw_at at (raw.Hom (span at (hom_name file f)) (part.raw (at + length (hom_name file f) + 1)));
 }
 
 -- a term in pieces
-abbrev pub laid : File → Term → Laid
-laid file = fold_term (node_laid file)
+abbrev pub written : File → Term → WrittenTerm
+written file = fold_term (node_written file)

@@ -1,4 +1,4 @@
--- The pieces of a goal's method stand side by side.
+-- The pieces of a goal's method each end where the next begins.
 use Rattle.std.proofs.Common.{◌≤◌, ◌<◌, ◌≤ℤ◌, ℕ, List, [], ◌∷◌, ◌++◌, length, refl, ap, sym, ◌∙◌, subst, arith, append_assoc, pos}
 use Rattle.std.specs.List.{AllByRecursion}
 use Rattle.std.proofs.lemmas.Int.{ints}
@@ -12,12 +12,12 @@ use Rattle.alg_terms.specs.Limits.{MAX_POWER, MAX_LIMIT, MAX_LITERAL}
 use Rattle.alg_terms.specs.GoalRules.{IsUse, MayBeBy}
 use Rattle.alg_terms.specs.Names.{IsName}
 use Rattle.alg_tokens.specs.declared.token.Word.TheVariants as words
-use Rattle.alg_tokens.proofs.Neighbours.{spell, spell_append, AllStand, stand_append}
-use Rattle.alg_tokens.proofs.Standing.{BeginsStop}
+use Rattle.alg_tokens.proofs.Neighbours.{spell, spell_append, EachEnds, ends_append}
+use Rattle.alg_tokens.proofs.PieceEnds.{BeginsStop}
 use Rattle.alg_printer.specs.Names.{hom_name}
-use Rattle.alg_reading_back.proofs.LaidMethods.{hyp_name, path_pieces, use_pieces, later_uses, uses_pieces, option_pieces, method_pieces}
-use Rattle.alg_reading_back.proofs.LaidTerms.{numeral, space, word}
-use Rattle.alg_reading_back.proofs.StandingTerms.{Fits, HasNames, StandsBeforeStop, word_space, fits_name, fits_numeral, fits_called}
+use Rattle.alg_reading_back.proofs.WrittenMethods.{hyp_name, path_pieces, use_pieces, later_uses, uses_pieces, option_pieces, method_pieces}
+use Rattle.alg_reading_back.proofs.WrittenTerms.{numeral, space, word}
+use Rattle.alg_reading_back.proofs.TermEnds.{Fits, HasNames, EndsAtStop, word_space, fits_name, fits_numeral, fits_called}
 
 -- ---- uses
 
@@ -45,49 +45,49 @@ uses_stop file [] next stops = stops
 uses_stop file (used ∷ uses) next stops = (32, _, refl, refl)
 
 -- the uses behind a first one, and all of them
-stand_later : (file : File) (sort : ℕ) (uses : List Use) → HasNames file → AllByRecursion (IsUse file sort) uses →
-    StandsBeforeStop (later_uses file uses)
-stand_later file sort [] names all next stops = tt
-stand_later file sort (used ∷ uses) names all next stops = (
+later_pieces_end : (file : File) (sort : ℕ) (uses : List Use) → HasNames file → AllByRecursion (IsUse file sort) uses →
+    EndsAtStop (later_uses file uses)
+later_pieces_end file sort [] names all next stops = tt
+later_pieces_end file sort (used ∷ uses) names all next stops = (
   (refl, λ e. omega (arith, e)),
   (
     (32, refl, refl),
-    stand_append (use_pieces file used) (later_uses file uses) next
+    ends_append (use_pieces file used) (later_uses file uses) next
         ((fits_use file sort used names all.0).stand _ (later_stop file uses next stops))
-        (stand_later file sort uses names all.1 next stops),
+        (later_pieces_end file sort uses names all.1 next stops),
   ),
 )
 
-stand_uses : (file : File) (sort : ℕ) (uses : List Use) → HasNames file → AllByRecursion (IsUse file sort) uses →
-    StandsBeforeStop (uses_pieces file uses)
-stand_uses file sort [] names all next stops = tt
-stand_uses file sort (used ∷ uses) names all next stops = (
+uses_pieces_end : (file : File) (sort : ℕ) (uses : List Use) → HasNames file → AllByRecursion (IsUse file sort) uses →
+    EndsAtStop (uses_pieces file uses)
+uses_pieces_end file sort [] names all next stops = tt
+uses_pieces_end file sort (used ∷ uses) names all next stops = (
   (32, refl, refl),
   word_space words.Using (use_pieces file used ++ later_uses file uses) next
-      (stand_append (use_pieces file used) (later_uses file uses) next
+      (ends_append (use_pieces file used) (later_uses file uses) next
       ((fits_use file sort used names all.0).stand _ (later_stop file uses next stops))
-      (stand_later file sort uses names all.1 next stops)),
+      (later_pieces_end file sort uses names all.1 next stops)),
 )
 
 -- ---- methods
 
 -- the power and the limit
-stand_options : (power limit : ℕ) → pos power ≤ℤ MAX_LITERAL → pos limit ≤ℤ MAX_LITERAL →
-    StandsBeforeStop (option_pieces power limit)
-stand_options power limit power_small limit_small next stops =
+options_pieces_end : (power limit : ℕ) → pos power ≤ℤ MAX_LITERAL → pos limit ≤ℤ MAX_LITERAL →
+    EndsAtStop (option_pieces power limit)
+options_pieces_end power limit power_small limit_small next stops =
     let last = numeral limit ∷ [] in
     let from_limit = space ∷ word words.Limit ∷ space ∷ last in
-    let limit_stands : AllStand from_limit next =
+    let limit_piece_ends : EachEnds from_limit next =
     ((32, refl, refl), word_space words.Limit last next ((fits_numeral limit limit_small).stand next stops)) in
-    let power_stands = (fits_numeral power power_small).stand (spell from_limit ++ next) (32, _, refl, refl) in
-    ((32, refl, refl), word_space words.Power (numeral power ∷ from_limit) next (power_stands.0, limit_stands))
+    let power_piece_ends = (fits_numeral power power_small).stand (spell from_limit ++ next) (32, _, refl, refl) in
+    ((32, refl, refl), word_space words.Power (numeral power ∷ from_limit) next (power_piece_ends.0, limit_piece_ends))
 
 -- the pieces of a method stand before each byte that stops
-pub stand_method : (file : File) (e : Equation) (method : Method) → HasNames file → MayBeBy file e method →
-    StandsBeforeStop (method_pieces file method)
-stand_method file e ByRing names may next stops = ((refl, stops), tt)
-stand_method file e ByField names may next stops = ((refl, stops), tt)
-stand_method file e (ByNsatz uses power limit) names may next stops =
+pub method_pieces_end : (file : File) (e : Equation) (method : Method) → HasNames file → MayBeBy file e method →
+    EndsAtStop (method_pieces file method)
+method_pieces_end file e ByRing names may next stops = ((refl, stops), tt)
+method_pieces_end file e ByField names may next stops = ((refl, stops), tt)
+method_pieces_end file e (ByNsatz uses power limit) names may next stops =
     let pieces = uses_pieces file uses in
     let options = option_pieces power limit in
     let power_small : pos power ≤ℤ MAX_LITERAL = let low : power ≤ MAX_POWER = may.power_high in omega (arith, ints) in
@@ -98,6 +98,6 @@ stand_method file e (ByNsatz uses power limit) names may next stops =
     ∙ append_assoc (spell pieces) (spell options) next)) (uses_stop file uses _ behind) in
     let all = recursion_from_All (IsUse file e.sort) uses may.each_use in (
       (refl, begins),
-      stand_append pieces options next (stand_uses file e.sort uses names all _ behind)
-          (stand_options power limit power_small limit_small next stops),
+      ends_append pieces options next (uses_pieces_end file e.sort uses names all _ behind)
+          (options_pieces_end power limit power_small limit_small next stops),
     )

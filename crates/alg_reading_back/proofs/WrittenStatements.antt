@@ -24,11 +24,11 @@ use Rattle.alg_reader.specs.declared.raw.RawKind.{RawKind}
 use Rattle.alg_reader.specs.declared.raw.RawKind.TheVariants as raws
 use Rattle.alg_reader.specs.declared.raw.Span.{Span}
 use Rattle.alg_printer.specs.Names.{sort_name, var_name}
-use Rattle.alg_reading_back.proofs.LaidMethods.{method_pieces, method_raw}
-use Rattle.alg_reading_back.proofs.LaidTerms.{space, line_feed, sign, word, name, numeral, span, laid}
+use Rattle.alg_reading_back.proofs.WrittenMethods.{method_pieces, method_raw}
+use Rattle.alg_reading_back.proofs.WrittenTerms.{space, line_feed, sign, word, name, numeral, span, written}
 
 -- a statement in pieces: those up to its `.`, and what it says by the place where they begin
-pub record LaidStatement : Type 0 where
+pub record WrittenStatement : Type 0 where
   pub pieces : List Piece
   pub raw : ℕ → RawKind
 
@@ -48,16 +48,16 @@ dot = sign signs.Dot ∷ []
 abbrev pub behind : List Piece → ℕ → List ℕ → Span
 behind pieces at bytes = span (at + width pieces) bytes
 
-abbrev pub laid_sort : Sort → LaidStatement
-laid_sort sort =
+abbrev pub written_sort : Sort → WrittenStatement
+written_sort sort =
     let front = word (kind_word sort.kind) ∷ space ∷ [] in
     record {
       pieces = front ++ (name sort.name ∷ (char_pieces sort.char0 ++ dot));
       raw = λ at. raws.Sort sort.kind (behind front at sort.name) sort.char0;
     }
 
-abbrev pub laid_hom : File → HomDecl → LaidStatement
-laid_hom file hom =
+abbrev pub written_hom : File → HomDecl → WrittenStatement
+written_hom file hom =
     let front = word words.Hom ∷ space ∷ [] in
     let from = front ++ (name hom.name ∷ space ∷ sign signs.Colon ∷ space ∷ []) in
     let to = from ++ (name (sort_name file hom.from) ∷ space ∷ sign signs.Arrow ∷ space ∷ []) in
@@ -75,8 +75,8 @@ abbrev pub name_spans : ℕ → List (List ℕ) → List Span
 name_spans at [] = []
 name_spans at (bytes ∷ names) = span (at + 1) bytes ∷ name_spans (at + 1 + length bytes) names
 
-abbrev pub laid_vars : File → ℕ → ℕ → LaidStatement
-laid_vars file first count =
+abbrev pub written_vars : File → ℕ → ℕ → WrittenStatement
+written_vars file first count =
     let names = map (var_name file) (numbers_from first count) in
     let front = word words.Var ∷ (name_pieces names ++ (space ∷ sign signs.Colon ∷ space ∷ [])) in
     let sort = sort_name file (sort_of_var file first) in
@@ -92,16 +92,16 @@ relation_sign false = signs.Equal
 
 -- the two sides of an equation behind other pieces: all pieces up to the relation, all up to the right side, those of
 -- the right side, and the raw equation
-pub record LaidSides : Type 0 where
+pub record WrittenSides : Type 0 where
   pub to_relation : List Piece
   pub to_right : List Piece
   pub right : List Piece
   pub raw : ℕ → RawEquation
 
-abbrev pub laid_sides : File → List Piece → Bool → Equation → LaidSides
-laid_sides file front nonzero e =
-    let left = laid file e.left in
-    let right = laid file e.right in
+abbrev pub written_sides : File → List Piece → Bool → Equation → WrittenSides
+written_sides file front nonzero e =
+    let left = written file e.left in
+    let right = written file e.right in
     let to_relation = front ++ (left.pieces ++ (space ∷ [])) in
     let to_right = to_relation ++ (sign (relation_sign nonzero) ∷ space ∷ []) in
     record {
@@ -116,11 +116,11 @@ laid_sides file front nonzero e =
       };
     }
 
-abbrev pub laid_hyp : File → Hyp → LaidStatement
-laid_hyp file hyp =
+abbrev pub written_hyp : File → Hyp → WrittenStatement
+written_hyp file hyp =
     let front = word words.Hyp ∷ space ∷ [] in
     let colon = front ++ (name hyp.name ∷ space ∷ sign signs.Colon ∷ space ∷ []) in
-    let sides = laid_sides file colon hyp.nonzero hyp.equation in
+    let sides = written_sides file colon hyp.nonzero hyp.equation in
     record {
       pieces = sides.to_right ++ (sides.right ++ dot);
       raw = λ at. raws.Hyp (behind front at hyp.name) (sides.raw at);
@@ -129,12 +129,12 @@ laid_hyp file hyp =
 -- the pieces of a goal up to its method
 abbrev pub goal_front : File → Equation → List Piece
 goal_front file e =
-    let sides = laid_sides file (word words.Goal ∷ space ∷ []) false e in
+    let sides = written_sides file (word words.Goal ∷ space ∷ []) false e in
     sides.to_right ++ (sides.right ++ (space ∷ word words.By ∷ space ∷ []))
 
-abbrev pub laid_goal : File → Goal → LaidStatement
-laid_goal file goal =
-    let sides = laid_sides file (word words.Goal ∷ space ∷ []) false goal.equation in
+abbrev pub written_goal : File → Goal → WrittenStatement
+written_goal file goal =
+    let sides = written_sides file (word words.Goal ∷ space ∷ []) false goal.equation in
     let by = goal_front file goal.equation in
     record {
       pieces = by ++ (method_pieces file goal.method ++ dot);
@@ -142,13 +142,13 @@ laid_goal file goal =
     }
 
 -- a statement of the file
-abbrev pub laid_statement : File → Statement → LaidStatement
-laid_statement file (statement.Sort s) = laid_sort (sort_at file s)
-laid_statement file (statement.Hom f) = laid_hom file (hom_at file f)
-laid_statement file (statement.Vars first count) = laid_vars file first count
-laid_statement file (statement.Hyp h) = laid_hyp file (hyp_at file h)
-laid_statement file (statement.Goal i) = laid_goal file (goal_at file i)
+abbrev pub written_statement : File → Statement → WrittenStatement
+written_statement file (statement.Sort s) = written_sort (sort_at file s)
+written_statement file (statement.Hom f) = written_hom file (hom_at file f)
+written_statement file (statement.Vars first count) = written_vars file first count
+written_statement file (statement.Hyp h) = written_hyp file (hyp_at file h)
+written_statement file (statement.Goal i) = written_goal file (goal_at file i)
 
 -- all statements of the file, each on a line of its own
 abbrev pub file_pieces : File → List Statement → List Piece
-file_pieces file order = flat_map (λ s. (laid_statement file s).pieces ++ (line_feed ∷ [])) order
+file_pieces file order = flat_map (λ s. (written_statement file s).pieces ++ (line_feed ∷ [])) order

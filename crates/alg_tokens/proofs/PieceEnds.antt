@@ -1,4 +1,4 @@
--- A piece stands before a text: it ends there, whatever follows.
+-- A piece ends before a text, whatever follows there.
 use Rattle.std.proofs.Common.{◌≡◌, ◌≢◌, ◌≤◌, ◌<◌, ◌≤ℤ◌, ℕ, Bool, true, false, not, ◌||◌, ◌&&◌, ◌==◌, nat_lt, List, [], ◌∷◌, ◌++◌, length, get_or, take, drop, refl, ap, sym, ◌∙◌, subst, arith, append_assoc, length-append, ℤ, pos, Some}
 use Rattle.std.specs.Prelude.{encode_utf8, encode_utf8_all}
 use Rattle.std.specs.Char.{IsAsciiDigit, is_ascii_digit}
@@ -35,14 +35,14 @@ abbrev pub GoesOnNoSign : List ℕ → Type 0
 GoesOnNoSign text = get_or text 0 0 ≢ 62
 
 -- the piece is what it says, and ends before this text
-abbrev pub Stands : Piece → List ℕ → Type 0
-Stands (Blank bytes) next = (b : ℕ) × (bytes ≡ b ∷ []) × (is_blank b ≡ true)
-Stands (Lexeme kinds.Name bytes) next = IsSpelledAsName bytes × (is_reserved bytes ≡ false) × BeginsStop next
-Stands (Lexeme (kinds.Word word) bytes) next = (bytes ≡ spelling word) × BeginsStop next
-Stands (Lexeme (kinds.Number value) bytes) next =
+abbrev pub EndsBefore : Piece → List ℕ → Type 0
+EndsBefore (Blank bytes) next = (b : ℕ) × (bytes ≡ b ∷ []) × (is_blank b ≡ true)
+EndsBefore (Lexeme kinds.Name bytes) next = IsSpelledAsName bytes × (is_reserved bytes ≡ false) × BeginsStop next
+EndsBefore (Lexeme (kinds.Word word) bytes) next = (bytes ≡ spelling word) × BeginsStop next
+EndsBefore (Lexeme (kinds.Number value) bytes) next =
     IsNumeral bytes × (value ≡ pos (value_of bytes)) × (value ≤ℤ MAX_LITERAL) × BeginsStop next
-Stands (Lexeme (kinds.Sign sign) bytes) next = (bytes ≡ sign_spelling sign) × GoesOnNoSign next
-Stands (Lexeme kinds.End bytes) next = ⊥
+EndsBefore (Lexeme (kinds.Sign sign) bytes) next = (bytes ≡ sign_spelling sign) × GoesOnNoSign next
+EndsBefore (Lexeme kinds.End bytes) next = ⊥
 
 -- ---- bytes that stop
 
@@ -100,9 +100,9 @@ name_run bytes next (c, chars, spelled, starts, all) (b, more, e, h) =
     }
 
 -- a word that is spelled as a name is the first piece before a byte that stops
-name_stands : (kind : TokenKind) (bytes next : List ℕ) → Spells kind bytes → IsSpelledAsName bytes →
+name_piece_ends : (kind : TokenKind) (bytes next : List ℕ) → Spells kind bytes → IsSpelledAsName bytes →
     BeginsStop next → IsFirst (Lexeme kind bytes) (bytes ++ next) next
-name_stands kind bytes next is (c, chars, spelled, starts, all) stops =
+name_piece_ends kind bytes next is (c, chars, spelled, starts, all) stops =
     let run = name_run bytes next (c, chars, spelled, starts, all) stops in
     let begins : BeginsChar starts_name true (bytes ++ next) = (
       c,
@@ -120,10 +120,10 @@ digits_run : (bytes next : List ℕ) → AllByRecursion IsAsciiDigit bytes → B
 digits_run [] next all (b, more, e, h) = rw (e, stop_no_digit b h) refl
 digits_run (d ∷ bytes) next all stops = rw (digit_passes d all.0, digits_run bytes next all.1 stops) (omega arith)
 
-number_stands : (value : ℤ) (bytes next : List ℕ) → IsNumeral bytes → value ≡ pos (value_of bytes) →
+number_piece_ends : (value : ℤ) (bytes next : List ℕ) → IsNumeral bytes → value ≡ pos (value_of bytes) →
     BeginsStop next → IsFirst (Lexeme (kinds.Number value) bytes) (bytes ++ next) next
-number_stands value [] next (some, all) same stops = absurd (some refl)
-number_stands value (d ∷ digits) next (some, all) same stops =
+number_piece_ends value [] next (some, all) same stops = absurd (some refl)
+number_piece_ends value (d ∷ digits) next (some, all) same stops =
     let bytes = d ∷ digits in
     let long = length-append bytes next in
     let there = same ∙ ap (λ bs. pos (value_of bs)) (sym (take-append_seam bytes next)) in
@@ -142,9 +142,9 @@ sign_told s next h = elim s as (λ s. sign_of (get_or (sign_spelling s ++ next) 
       | _ ↦ refl
     ]
 
-sign_stands : (s : Sign) (next : List ℕ) → GoesOnNoSign next →
+sign_piece_ends : (s : Sign) (next : List ℕ) → GoesOnNoSign next →
     IsFirst (Lexeme (kinds.Sign s) (sign_spelling s)) (sign_spelling s ++ next) next
-sign_stands s next no_sign =
+sign_piece_ends s next no_sign =
     let bytes = sign_spelling s in
     let other : (get_or next 0 0 == 62) ≡ false = grind (arith, nat_tests, no_sign) in
     let (_, _, first) = sign_first (bytes ++ next) (s, length bytes) (sign_told s next other) in
@@ -152,14 +152,15 @@ sign_stands s next no_sign =
 
 -- ---- every piece
 
--- a piece that stands before a text is the first piece
-pub stands_first : (piece : Piece) (next : List ℕ) → Stands piece next → IsFirst piece (bytes_of piece ++ next) next
-stands_first (Blank bytes) next (b, e, is) = rw e (byte_first b next is)
-stands_first (Lexeme kinds.Name bytes) next (spelled, free, stops) =
-    name_stands kinds.Name bytes next (spelled, free) spelled stops
-stands_first (Lexeme (kinds.Word word) bytes) next (e, stops) =
-    name_stands (kinds.Word word) bytes next e (subst IsSpelledAsName (sym e) (word_spelled word)) stops
-stands_first (Lexeme (kinds.Number value) bytes) next (is, same, small, stops) =
-    number_stands value bytes next is same stops
-stands_first (Lexeme (kinds.Sign s) bytes) next (e, no_sign) = rw e (sign_stands s next no_sign)
-stands_first (Lexeme kinds.End bytes) next stands = absurd stands
+-- a piece that ends before a text is the first piece
+pub first_if_ends : (piece : Piece) (next : List ℕ) → EndsBefore piece next →
+    IsFirst piece (bytes_of piece ++ next) next
+first_if_ends (Blank bytes) next (b, e, is) = rw e (byte_first b next is)
+first_if_ends (Lexeme kinds.Name bytes) next (spelled, free, stops) =
+    name_piece_ends kinds.Name bytes next (spelled, free) spelled stops
+first_if_ends (Lexeme (kinds.Word word) bytes) next (e, stops) =
+    name_piece_ends (kinds.Word word) bytes next e (subst IsSpelledAsName (sym e) (word_spelled word)) stops
+first_if_ends (Lexeme (kinds.Number value) bytes) next (is, same, small, stops) =
+    number_piece_ends value bytes next is same stops
+first_if_ends (Lexeme (kinds.Sign s) bytes) next (e, no_sign) = rw e (sign_piece_ends s next no_sign)
+first_if_ends (Lexeme kinds.End bytes) next stands = absurd stands

@@ -15,7 +15,7 @@ use Rattle.alg_reader.specs.declared.raw.RawMethod.TheVariants as methods
 use Rattle.alg_reader.specs.declared.raw.RawUse.{RawUse}
 use Rattle.alg_reader.specs.PartMeaning.{under}
 use Rattle.alg_printer.specs.Names.{hom_name}
-use Rattle.alg_reading_back.proofs.LaidTerms.{space, sign, word, name, numeral, span, in_parentheses}
+use Rattle.alg_reading_back.proofs.WrittenTerms.{space, sign, word, name, numeral, span, in_parentheses}
 
 abbrev pub hyp_name : File → ℕ → List ℕ
 hyp_name file h = (hyp_at file h).name

@@ -1,4 +1,4 @@
--- The pieces of a term stand side by side.
+-- The pieces of a term each end where the next begins.
 use Rattle.std.proofs.Common.{◌≡◌, ◌≤◌, ◌<◌, ◌≤ℤ◌, ℕ, true, false, cond, nat_lt, List, [], ◌∷◌, ◌++◌, length, decimal, refl, ap, sym, ◌∙◌, subst, arith, append_assoc, append-nil, ℤ, pos, negsuc}
 use Rattle.std.proofs.lemmas.Int.{ints}
 use Rattle.alg_terms.specs.declared.file.File.{File}
@@ -13,16 +13,16 @@ use Rattle.alg_tokens.specs.declared.token.Word.{Word}
 use Rattle.alg_tokens.specs.Pieces.{Piece, value_of}
 use Rattle.alg_tokens.specs.Spelling.{sign_spelling}
 use Rattle.alg_tokens.proofs.Leads.{spelled_lead, leads}
-use Rattle.alg_tokens.proofs.Neighbours.{spell, spell_append, AllStand, stand_append}
+use Rattle.alg_tokens.proofs.Neighbours.{spell, spell_append, EachEnds, ends_append}
 use Rattle.alg_tokens.proofs.Numerals.{decimal_numeral}
-use Rattle.alg_tokens.proofs.Standing.{BeginsStop, GoesOnNoSign, stop_no_sign}
+use Rattle.alg_tokens.proofs.PieceEnds.{BeginsStop, GoesOnNoSign, stop_no_sign}
 use Rattle.alg_printer.specs.Names.{sort_name, var_name, hom_name}
-use Rattle.alg_reading_back.proofs.LaidMethods.{hyp_name}
-use Rattle.alg_reading_back.proofs.LaidTerms.{Laid, laid, in_parentheses, part_pieces, space, sign, word, name, numeral, integer}
+use Rattle.alg_reading_back.proofs.WrittenMethods.{hyp_name}
+use Rattle.alg_reading_back.proofs.WrittenTerms.{WrittenTerm, written, in_parentheses, part_pieces, space, sign, word, name, numeral, integer}
 
 -- the pieces stand before each byte that stops, and no sign goes on with them
 pub record Fits (pieces : List Piece) : Type 0 where
-  pub stand : (next : List ℕ) → BeginsStop next → AllStand pieces next
+  pub stand : (next : List ℕ) → BeginsStop next → EachEnds pieces next
   pub opens : (next : List ℕ) → GoesOnNoSign (spell pieces ++ next)
 
 -- ---- single pieces
@@ -59,20 +59,20 @@ fits_integer (negsuc n) (low, high) = absurd (omega (arith, ints))
 -- ---- a piece with a space behind it
 
 -- the pieces stand before each byte that stops
-abbrev pub StandsBeforeStop : List Piece → Type 0
-StandsBeforeStop pieces = (next : List ℕ) → BeginsStop next → AllStand pieces next
+abbrev pub EndsAtStop : List Piece → Type 0
+EndsAtStop pieces = (next : List ℕ) → BeginsStop next → EachEnds pieces next
 
 -- a word, a sign and a name
-pub word_space : (w : Word) (pieces : List Piece) (next : List ℕ) → AllStand pieces next →
-    AllStand (word w ∷ space ∷ pieces) next
+pub word_space : (w : Word) (pieces : List Piece) (next : List ℕ) → EachEnds pieces next →
+    EachEnds (word w ∷ space ∷ pieces) next
 word_space w pieces next stand = ((refl, (32, _, refl, refl)), ((32, refl, refl), stand))
 
-pub sign_space : (s : Sign) (pieces : List Piece) (next : List ℕ) → AllStand pieces next →
-    AllStand (sign s ∷ space ∷ pieces) next
+pub sign_space : (s : Sign) (pieces : List Piece) (next : List ℕ) → EachEnds pieces next →
+    EachEnds (sign s ∷ space ∷ pieces) next
 sign_space s pieces next stand = ((refl, λ e. omega (arith, e)), ((32, refl, refl), stand))
 
-pub name_space : (bytes : List ℕ) (pieces : List Piece) (next : List ℕ) → IsName bytes → AllStand pieces next →
-    AllStand (name bytes ∷ space ∷ pieces) next
+pub name_space : (bytes : List ℕ) (pieces : List Piece) (next : List ℕ) → IsName bytes → EachEnds pieces next →
+    EachEnds (name bytes ∷ space ∷ pieces) next
 name_space bytes pieces next is stand = ((is.0, is.1, (32, _, refl, refl)), ((32, refl, refl), stand))
 
 -- ---- pieces of several
@@ -87,13 +87,13 @@ pub fits_parentheses : (pieces : List Piece) → Fits pieces → Fits (in_parent
 fits_parentheses pieces fits = record {
   stand = λ next stops. (
     (refl, opens_more pieces (sign signs.ParenRight ∷ []) next fits),
-    stand_append pieces (sign signs.ParenRight ∷ []) next (fits.stand (41 ∷ next) (41, next, refl, refl))
+    ends_append pieces (sign signs.ParenRight ∷ []) next (fits.stand (41 ∷ next) (41, next, refl, refl))
         ((refl, stop_no_sign next stops), tt),
   );
   opens = λ next e. omega (arith, e);
 }
 
-fits_part : (wanted : ℕ) (part : Laid) → Fits part.pieces → Fits (part_pieces wanted part)
+fits_part : (wanted : ℕ) (part : WrittenTerm) → Fits part.pieces → Fits (part_pieces wanted part)
 fits_part wanted part fits = elim (nat_lt part.level wanted) as (λ v. Fits
     (cond v (in_parentheses part.pieces) part.pieces)) [
       | true ↦ fits_parentheses part.pieces fits
@@ -104,7 +104,7 @@ fits_part wanted part fits = elim (nat_lt part.level wanted) as (λ v. Fits
 fits_spaced : (op : Sign) (left right : List Piece) → Fits left → Fits right →
     Fits (left ++ (space ∷ sign op ∷ space ∷ right))
 fits_spaced op left right one other = record {
-  stand = λ next stops. stand_append left (space ∷ sign op ∷ space ∷ right) next
+  stand = λ next stops. ends_append left (space ∷ sign op ∷ space ∷ right) next
       (one.stand _ (32, _, refl, refl))
       ((32, refl, refl), ((refl, λ e. omega (arith, e)), ((32, refl, refl), other.stand next stops)));
   opens = λ next. opens_more left (space ∷ sign op ∷ space ∷ right) next one;
@@ -118,7 +118,7 @@ Stops op = (more next : List ℕ) → BeginsStop ((sign_spelling op ++ more) ++ 
 fits_tight : (op : Sign) (left right : List Piece) → Stops op → Fits left → Fits right →
     Fits (left ++ (sign op ∷ right))
 fits_tight op left right stops one other = record {
-  stand = λ next ends. stand_append left (sign op ∷ right) next (one.stand _ (stops (spell right) next))
+  stand = λ next ends. ends_append left (sign op ∷ right) next (one.stand _ (stops (spell right) next))
       ((refl, other.opens next), other.stand next ends);
   opens = λ next. opens_more left (sign op ∷ right) next one;
 }
@@ -151,35 +151,35 @@ pub record HasNames (file : File) : Type 0 where
 abbrev pub IsWritable : File → Term → Type 0
 IsWritable file t = EachNode (IsInRange file) t × EachNode HasLiteral t × EachNode HasExponent t
 
-pub fits_term : (file : File) (t : Term) → HasNames file → IsWritable file t → Fits (laid file t).pieces
+pub fits_term : (file : File) (t : Term) → HasNames file → IsWritable file t → Fits (written file t).pieces
 unfolding fold_term EachNode
 fits_term file (Var k) names (range, literals, exponents) = fits_name (var_name file k) (names.vars k range)
 fits_term file (Int n) names (range, literals, exponents) = fits_integer n literals
 fits_term file (Neg' _ (more_of-Term t _)) names (range, literals, exponents) =
-    fits_minus (part_pieces 3 (laid file t))
-    (fits_part 3 (laid file t) (fits_term file t names (range.1, literals.1, exponents.1)))
+    fits_minus (part_pieces 3 (written file t))
+    (fits_part 3 (written file t) (fits_term file t names (range.1, literals.1, exponents.1)))
 fits_term file (Add' _ (more_of-Term t _) _ (more_of-Term u _)) names (range, literals, exponents) =
-    fits_spaced signs.Plus (part_pieces 1 (laid file t)) (part_pieces 2 (laid file u))
-    (fits_part 1 (laid file t) (fits_term file t names (range.1, literals.1, exponents.1)))
-    (fits_part 2 (laid file u) (fits_term file u names (range.2, literals.2, exponents.2)))
+    fits_spaced signs.Plus (part_pieces 1 (written file t)) (part_pieces 2 (written file u))
+    (fits_part 1 (written file t) (fits_term file t names (range.1, literals.1, exponents.1)))
+    (fits_part 2 (written file u) (fits_term file u names (range.2, literals.2, exponents.2)))
 fits_term file (Sub' _ (more_of-Term t _) _ (more_of-Term u _)) names (range, literals, exponents) =
-    fits_spaced signs.Minus (part_pieces 1 (laid file t)) (part_pieces 2 (laid file u))
-    (fits_part 1 (laid file t) (fits_term file t names (range.1, literals.1, exponents.1)))
-    (fits_part 2 (laid file u) (fits_term file u names (range.2, literals.2, exponents.2)))
+    fits_spaced signs.Minus (part_pieces 1 (written file t)) (part_pieces 2 (written file u))
+    (fits_part 1 (written file t) (fits_term file t names (range.1, literals.1, exponents.1)))
+    (fits_part 2 (written file u) (fits_term file u names (range.2, literals.2, exponents.2)))
 fits_term file (Mul' _ (more_of-Term t _) _ (more_of-Term u _)) names (range, literals, exponents) =
-    fits_tight signs.Star (part_pieces 2 (laid file t)) (part_pieces 3 (laid file u))
+    fits_tight signs.Star (part_pieces 2 (written file t)) (part_pieces 3 (written file u))
     (λ more next. (42, _, refl, refl))
-    (fits_part 2 (laid file t) (fits_term file t names (range.1, literals.1, exponents.1)))
-    (fits_part 3 (laid file u) (fits_term file u names (range.2, literals.2, exponents.2)))
+    (fits_part 2 (written file t) (fits_term file t names (range.1, literals.1, exponents.1)))
+    (fits_part 3 (written file u) (fits_term file u names (range.2, literals.2, exponents.2)))
 fits_term file (Div' _ (more_of-Term t _) _ (more_of-Term u _)) names (range, literals, exponents) =
-    fits_tight signs.Slash (part_pieces 2 (laid file t)) (part_pieces 3 (laid file u))
+    fits_tight signs.Slash (part_pieces 2 (written file t)) (part_pieces 3 (written file u))
     (λ more next. (47, _, refl, refl))
-    (fits_part 2 (laid file t) (fits_term file t names (range.1, literals.1, exponents.1)))
-    (fits_part 3 (laid file u) (fits_term file u names (range.2, literals.2, exponents.2)))
+    (fits_part 2 (written file t) (fits_term file t names (range.1, literals.1, exponents.1)))
+    (fits_part 3 (written file u) (fits_term file u names (range.2, literals.2, exponents.2)))
 fits_term file (Pow' _ (more_of-Term t _) n) names (range, literals, exponents) =
-    fits_tight signs.Caret (part_pieces 5 (laid file t)) (numeral n ∷ []) (λ more next. (94, _, refl, refl))
-    (fits_part 5 (laid file t) (fits_term file t names (range.1, literals.1, exponents.1)))
+    fits_tight signs.Caret (part_pieces 5 (written file t)) (numeral n ∷ []) (λ more next. (94, _, refl, refl))
+    (fits_part 5 (written file t) (fits_term file t names (range.1, literals.1, exponents.1)))
     (fits_numeral n (let low : n ≤ MAX_EXPONENT = exponents.0 in omega (arith, ints)))
 fits_term file (Hom' f _ (more_of-Term t _)) names (range, literals, exponents) =
-    fits_called (hom_name file f) (laid file t).pieces (names.homs f range.0)
+    fits_called (hom_name file f) (written file t).pieces (names.homs f range.0)
     (fits_term file t names (range.1, literals.1, exponents.1))
