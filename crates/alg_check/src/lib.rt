@@ -7,6 +7,7 @@
 mod certificate;
 mod combined;
 mod given;
+pub mod laws;
 #[cfg(test)]
 mod tests;
 

@@ -16,6 +16,7 @@ use Rattle.alg_mono.specs.Polynomials.{IsPolynomial}
 use Rattle.alg_mono.proofs.Canonical.{first}
 use Rattle.std.specs.Ordering.{nat_cmp}
 use Rattle.alg_poly.specs.Divisors.{DividesEach, IsContent, times_number}
+use Rattle.alg_poly.proofs.Cancelled.{over_times}
 use Rattle.alg_mono.specs.Mono.{Monomial}
 use Rattle.alg_mono.specs.NumberedPolynomials.{Polynomial}
 use Rattle.alg_groebner.specs.Divisors.{greatest_up_to, common_divisor, common, content, over_number}
@@ -135,20 +136,6 @@ content_is e p g some h =
     (λ d t. h.greatest d (number_each d (e ∷ p) t))
 
 -- ---- exact quotients
-over_times : (d z : ℤ) → pos 1 ≤ℤ d → int_div (d *ℤ z) d ≡ z
-over_times (pos zero) z h = absurd (omega (arith, ints))
-over_times (negsuc n) z h = absurd (omega (arith, ints))
-over_times (pos (suc n)) (pos m) h =
-    ap (λ (z : ℤ). int_div z (pos (suc n))) (pos-*ℤ-pos (suc n) m) ∙ ap pos (mul-div_cancel_left m (omega arith))
-over_times (pos (suc n)) (negsuc m) h =
-    ap (λ (z : ℤ). int_div z (pos (suc n))) (pos-*ℤ-negsuc (suc n) m)
-    ∙ below n m (suc n * suc m) refl (omega arith)
-  where
-    below : (n m k : ℕ) → k ≡ suc n * suc m → 0 < k → int_div (neg_ℤ (pos k)) (pos (suc n)) ≡ negsuc m
-    below n m zero e h = absurd (omega arith)
-    below n m (suc k) e h =
-        ap (λ j. neg_ℤ (pos j)) (ap (λ j. j / suc n) e ∙ mul-div_cancel_left (suc m) (omega arith))
-
 pub quotient_is : (d : ℤ) (q : Polynomial) → pos 1 ≤ℤ d → over_number d (times_number d q) ≡ q
 quotient_is d [] h = refl
 quotient_is d (e ∷ q) h = λ i. (e.0, over_times d e.1 h i) ∷ quotient_is d q h i

@@ -7,3 +7,4 @@ pub mod Multiples
 pub mod Differences
 pub mod DifferenceTurns
 pub mod Contents
+pub mod Cancelled

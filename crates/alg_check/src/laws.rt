@@ -1,0 +1,9 @@
+//! What the answers to certificates say. The functions do nothing: their contracts are the laws.
+
+ghost use Rattle.alg_check.specs.Laws.{OneAcceptance};
+
+/// A certificate comes to one thing alone: it is good, has one first breach, or its power breaks one
+/// rule.
+pub fn one_acceptance()
+    ensures { OneAcceptance }
+{}
