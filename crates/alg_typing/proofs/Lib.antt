@@ -9,7 +9,6 @@ pub mod Growing
 pub mod GrowingGoals
 pub mod GrowingOrder
 pub mod GrowingTerms
-pub mod Induction
 pub mod Kept
 pub mod Lookups
 pub mod MoreMembers
