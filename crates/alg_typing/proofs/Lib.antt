@@ -21,7 +21,6 @@ pub mod OccurringInFile
 pub mod Ordering
 pub mod Positions
 pub mod Quotients
-pub mod RawBuilt
 pub mod RawParts
 pub mod Resolving
 pub mod Small
