@@ -1,5 +1,5 @@
 -- From what a sink took to what a run wrote, and that an input has one reply.
-use Rattle.std.proofs.Common.{◌≡◌, ◌⊎◌, inl, inr, ◌<◌, ℕ, List, Option, None, Some, length, map, codes, refl, sym, ap, ◌∙◌, subst, arith}
+use Rattle.std.proofs.Common.{◌≡◌, ◌⊎◌, inl, inr, ℕ, List, Option, None, Some, map, sym, ap, ◌∙◌, subst, arith}
 use Rattle.std.specs.Prelude.{IfSome, Ok, Err}
 use Rattle.alg_outside.specs.Bytes.{Appends, ConsumesAll}
 use Rattle.alg_universe.specs.declared.universe.Universe.{Ghosts}
@@ -12,7 +12,6 @@ use Rattle.alg_cli.specs.declared.command.Command.{Command}
 use Rattle.alg_cli.specs.declared.command.Command.TheVariants as command
 use Rattle.alg_cli.specs.declared.status.Status.{Status}
 use Rattle.alg_cli.specs.declared.status.Status.TheVariants.{Done, NotAll, Refused, Usage, ReadFault, WriteFault, NoMemory}
-use Rattle.alg_cli.specs.Commands.{most_bytes}
 use Rattle.alg_cli.specs.Replies.{IsReplyTo, IsReplyWithin, IsRefused, IsAnswered, refusal_text, status_of}
 use Rattle.alg_cli.specs.Runs.{SinkChange, IsFailure, WritesByStatus, WritesAll, WritesPrefix}
 

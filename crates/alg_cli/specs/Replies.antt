@@ -17,7 +17,6 @@ use Rattle.alg_typing.specs.Reading.{IsReadingOf}
 use Rattle.alg_universe.specs.declared.universe.Universe.{Ghosts}
 use Rattle.alg_universe.specs.Right.{IsRight}
 use Rattle.alg_cli.specs.declared.command.Command.{Command}
-use Rattle.alg_cli.specs.declared.command.Command.TheVariants as Command
 use Rattle.alg_cli.specs.declared.status.Status.{Status}
 use Rattle.alg_cli.specs.declared.status.Status.TheVariants.{Done, NotAll, Refused, Usage}
 use Rattle.alg_cli.specs.Commands.{most_bytes}

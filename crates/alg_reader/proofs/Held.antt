@@ -21,7 +21,7 @@ use Rattle.alg_reader.specs.TooDeep.{node_depths, node_over, first_too_deep, kep
 use Rattle.alg_reader.specs.RawNodes.{at, joined, binary, image, opposite, opposites, power_of, literal, variable, span_of, numeral_of}
 use Rattle.alg_reader.specs.PartMeaning.{sides}
 use Rattle.alg_reader.specs.Parts.{held, held_statement, HasNoTerms, left_out, over, leaf_part, binary_part, image_part, opposite_part, opposites_part, power_part}
-use Rattle.alg_reader.proofs.Built.{fold_raw-Neg, fold_raw-Add, fold_raw-Sub, fold_raw-Mul, fold_raw-Div, fold_raw-Pow, fold_raw-Hom}
+use Rattle.alg_reader.proofs.Built.{fold_under-Neg, fold_under-Add, fold_under-Sub, fold_under-Mul, fold_under-Div, fold_under-Pow, fold_under-Hom}
 use Rattle.alg_reader.proofs.Depths.{depth_agrees}
 
 -- nothing after the first
@@ -97,18 +97,18 @@ one_held head node t deep firsts =
     (λ small. ap node (kept_whole t small))
 
 pub opposite_held : (head : ℕ) (t : RawTerm) → held (opposite head t) ≡ opposite_part head (held t)
-opposite_held head t = one_held head (λ u. Neg u) t (fold_raw-Neg node_depth head t) (ap (λ d. d.too_deep)
-    (fold_raw-Neg node_depths head t))
+opposite_held head t = one_held head (λ u. Neg u) t (fold_under-Neg node_depth head t) (ap (λ d. d.too_deep)
+    (fold_under-Neg node_depths head t))
 
 pub image_held : (name : Token) (t : RawTerm) → held (image name t) ≡ image_part name (held t)
 image_held name t = one_held name.start (λ u. Hom (span_of name) u) t
-    (fold_raw-Hom node_depth name.start (span_of name) t) (ap (λ d. d.too_deep)
-    (fold_raw-Hom node_depths name.start (span_of name) t))
+    (fold_under-Hom node_depth name.start (span_of name) t) (ap (λ d. d.too_deep)
+    (fold_under-Hom node_depths name.start (span_of name) t))
 
 pub power_held : (caret : Token) (t : RawTerm) (n : Token) → held (power_of caret t n) ≡ power_part caret (held t) n
 power_held caret t n = one_held caret.start (λ u. Pow u (numeral_of n)) t
-    (fold_raw-Pow node_depth caret.start t (numeral_of n)) (ap (λ d. d.too_deep)
-    (fold_raw-Pow node_depths caret.start t (numeral_of n)))
+    (fold_under-Pow node_depth caret.start t (numeral_of n)) (ap (λ d. d.too_deep)
+    (fold_under-Pow node_depths caret.start t (numeral_of n)))
 
 pub opposites_held : (heads : List ℕ) (t : RawTerm) → held (opposites heads t) ≡ opposites_part heads (held t)
 opposites_held [] t = refl
@@ -134,8 +134,8 @@ two_held head node t u deep firsts =
 
 div_held : (head : ℕ) (t u : RawTerm) → held (at head (Div t u)) ≡ over head (Div (held t).term (held u).term)
     (max (held t).depth (held u).depth) (option_or (held t).too_deep (held u).too_deep)
-div_held head t u = two_held head (λ x y. Div x y) t u (fold_raw-Div node_depth head t u) (ap (λ d. d.too_deep)
-    (fold_raw-Div node_depths head t u))
+div_held head t u = two_held head (λ x y. Div x y) t u (fold_under-Div node_depth head t u) (ap (λ d. d.too_deep)
+    (fold_under-Div node_depths head t u))
 
 sign_held : (head : ℕ) (sign : Sign) (t u : RawTerm) → held (at head (joined (kinds.Sign sign) t u))
     ≡ over head (joined (kinds.Sign sign) (held t).term (held u).term) (max (held t).depth (held u).depth)
@@ -143,12 +143,12 @@ sign_held : (head : ℕ) (sign : Sign) (t u : RawTerm) → held (at head (joined
 sign_held head sign t u = elim sign as (λ s. held (at head (joined (kinds.Sign s) t u))
     ≡ over head (joined (kinds.Sign s) (held t).term (held u).term) (max (held t).depth (held u).depth)
     (option_or (held t).too_deep (held u).too_deep)) [
-      | signs.Plus ↦ two_held head (λ x y. Add x y) t u (fold_raw-Add node_depth head t u) (ap (λ d. d.too_deep)
-          (fold_raw-Add node_depths head t u))
-      | signs.Minus ↦ two_held head (λ x y. Sub x y) t u (fold_raw-Sub node_depth head t u) (ap (λ d. d.too_deep)
-          (fold_raw-Sub node_depths head t u))
-      | signs.Star ↦ two_held head (λ x y. Mul x y) t u (fold_raw-Mul node_depth head t u) (ap (λ d. d.too_deep)
-          (fold_raw-Mul node_depths head t u))
+      | signs.Plus ↦ two_held head (λ x y. Add x y) t u (fold_under-Add node_depth head t u) (ap (λ d. d.too_deep)
+          (fold_under-Add node_depths head t u))
+      | signs.Minus ↦ two_held head (λ x y. Sub x y) t u (fold_under-Sub node_depth head t u) (ap (λ d. d.too_deep)
+          (fold_under-Sub node_depths head t u))
+      | signs.Star ↦ two_held head (λ x y. Mul x y) t u (fold_under-Mul node_depth head t u) (ap (λ d. d.too_deep)
+          (fold_under-Mul node_depths head t u))
       | signs.Dot ↦ div_held head t u
       | _ ↦ div_held head t u
     ]

@@ -18,7 +18,7 @@ use Rattle.alg_reader.specs.RawNodes.{at, span_of, number_of, numeral_of, joined
 use Rattle.alg_reader.specs.TermMeaning.{one, two, term}
 use Rattle.alg_reader.specs.RawTerms.{Node, fold_raw}
 use Rattle.alg_reader.specs.WellRead.{IsNameAt, IsNumeral, bytes_at}
-use Rattle.alg_reader.proofs.Built.{fold_raw-Var, fold_raw-Int, fold_raw-Neg, fold_raw-Add, fold_raw-Sub, fold_raw-Mul, fold_raw-Div, fold_raw-Pow, fold_raw-Hom}
+use Rattle.alg_reader.proofs.Built.{fold_under-Var, fold_under-Int, fold_under-Neg, fold_under-Add, fold_under-Sub, fold_under-Mul, fold_under-Div, fold_under-Pow, fold_under-Hom}
 use Rattle.alg_reader.proofs.Boundaries.{IsTokenAt}
 use Rattle.alg_reader.proofs.Variants.{is_name, is_numeral}
 use Rattle.alg_reader.proofs.Found.{all_append, row, EachOf, IsInRange, IsFoundTerm, TermFound, Found}
@@ -72,20 +72,20 @@ joined_fold : {X : Type 0} (f : ℕ → Node X → X) (both : X → X → X) (he
     → (kind : TokenKind) (t u : RawTerm) → fold_raw f (at head (joined kind t u)) ≡ both (fold_raw f t) (fold_raw f u)
 joined_fold f both head plus minus star slash (kinds.Sign sign) t u =
     elim sign as (λ s. fold_raw f (at head (joined (kinds.Sign s) t u)) ≡ both (fold_raw f t) (fold_raw f u)) [
-      | signs.Plus ↦ fold_raw-Add f head t u ∙ plus (fold_raw f t) (fold_raw f u)
-      | signs.Minus ↦ fold_raw-Sub f head t u ∙ minus (fold_raw f t) (fold_raw f u)
-      | signs.Star ↦ fold_raw-Mul f head t u ∙ star (fold_raw f t) (fold_raw f u)
-      | signs.Dot ↦ fold_raw-Div f head t u ∙ slash (fold_raw f t) (fold_raw f u)
-      | _ ↦ fold_raw-Div f head t u ∙ slash (fold_raw f t) (fold_raw f u)
+      | signs.Plus ↦ fold_under-Add f head t u ∙ plus (fold_raw f t) (fold_raw f u)
+      | signs.Minus ↦ fold_under-Sub f head t u ∙ minus (fold_raw f t) (fold_raw f u)
+      | signs.Star ↦ fold_under-Mul f head t u ∙ star (fold_raw f t) (fold_raw f u)
+      | signs.Dot ↦ fold_under-Div f head t u ∙ slash (fold_raw f t) (fold_raw f u)
+      | _ ↦ fold_under-Div f head t u ∙ slash (fold_raw f t) (fold_raw f u)
     ]
 joined_fold f both head plus minus star slash kinds.Name t u =
-    fold_raw-Div f head t u ∙ slash (fold_raw f t) (fold_raw f u)
+    fold_under-Div f head t u ∙ slash (fold_raw f t) (fold_raw f u)
 joined_fold f both head plus minus star slash (kinds.Word word) t u =
-    fold_raw-Div f head t u ∙ slash (fold_raw f t) (fold_raw f u)
+    fold_under-Div f head t u ∙ slash (fold_raw f t) (fold_raw f u)
 joined_fold f both head plus minus star slash (kinds.Number value) t u =
-    fold_raw-Div f head t u ∙ slash (fold_raw f t) (fold_raw f u)
+    fold_under-Div f head t u ∙ slash (fold_raw f t) (fold_raw f u)
 joined_fold f both head plus minus star slash kinds.End t u =
-    fold_raw-Div f head t u ∙ slash (fold_raw f t) (fold_raw f u)
+    fold_under-Div f head t u ∙ slash (fold_raw f t) (fold_raw f u)
 
 binary_found : (text : List ℕ) (op : Token) (t u : RawTerm) → IsFoundTerm text t → IsFoundTerm text u
     → IsFoundTerm text (binary op t u)
@@ -100,25 +100,25 @@ binary_found text op t u h k = record {
 
 pub opposite_found : (text : List ℕ) (head : ℕ) (t : RawTerm) → IsFoundTerm text t → IsFoundTerm text (opposite head t)
 opposite_found text head t h = record {
-  names = subst (AllByRecursion (IsNameAt text)) (sym (fold_raw-Neg _ head t)) h.names;
-  literals = subst (AllByRecursion IsInRange) (sym (fold_raw-Neg _ head t)) h.literals;
-  exponents = subst (AllByRecursion IsNumeral) (sym (fold_raw-Neg _ head t)) h.exponents;
+  names = subst (AllByRecursion (IsNameAt text)) (sym (fold_under-Neg _ head t)) h.names;
+  literals = subst (AllByRecursion IsInRange) (sym (fold_under-Neg _ head t)) h.literals;
+  exponents = subst (AllByRecursion IsNumeral) (sym (fold_under-Neg _ head t)) h.exponents;
 }
 
 pub image_found : (text : List ℕ) (name : Token) (t : RawTerm) → IsNameAt text (span_of name) → IsFoundTerm text t
     → IsFoundTerm text (image name t)
 image_found text name t here h = record {
-  names = subst (AllByRecursion (IsNameAt text)) (sym (fold_raw-Hom _ name.start (span_of name) t)) (here, h.names);
-  literals = subst (AllByRecursion IsInRange) (sym (fold_raw-Hom _ name.start (span_of name) t)) h.literals;
-  exponents = subst (AllByRecursion IsNumeral) (sym (fold_raw-Hom _ name.start (span_of name) t)) h.exponents;
+  names = subst (AllByRecursion (IsNameAt text)) (sym (fold_under-Hom _ name.start (span_of name) t)) (here, h.names);
+  literals = subst (AllByRecursion IsInRange) (sym (fold_under-Hom _ name.start (span_of name) t)) h.literals;
+  exponents = subst (AllByRecursion IsNumeral) (sym (fold_under-Hom _ name.start (span_of name) t)) h.exponents;
 }
 
 pub power_found : (text : List ℕ) (caret : Token) (t : RawTerm) (n : Token) → IsInRange (number_of n.kind)
     → IsFoundTerm text t → IsFoundTerm text (power_of caret t n)
 power_found text caret t n range h = record {
-  names = subst (AllByRecursion (IsNameAt text)) (sym (fold_raw-Pow _ caret.start t (numeral_of n))) h.names;
-  literals = subst (AllByRecursion IsInRange) (sym (fold_raw-Pow _ caret.start t (numeral_of n))) h.literals;
-  exponents = subst (AllByRecursion IsNumeral) (sym (fold_raw-Pow _ caret.start t (numeral_of n))) (
+  names = subst (AllByRecursion (IsNameAt text)) (sym (fold_under-Pow _ caret.start t (numeral_of n))) h.names;
+  literals = subst (AllByRecursion IsInRange) (sym (fold_under-Pow _ caret.start t (numeral_of n))) h.literals;
+  exponents = subst (AllByRecursion IsNumeral) (sym (fold_under-Pow _ caret.start t (numeral_of n))) (
     record { low = range.0; high = range.1 },
     h.exponents,
   );
@@ -126,16 +126,16 @@ power_found text caret t n range h = record {
 
 pub literal_found : (text : List ℕ) (t : Token) → IsInRange (number_of t.kind) → IsFoundTerm text (literal t)
 literal_found text t range = record {
-  names = subst (AllByRecursion (IsNameAt text)) (sym (fold_raw-Int _ t.start (number_of t.kind))) tt;
-  literals = subst (AllByRecursion IsInRange) (sym (fold_raw-Int _ t.start (number_of t.kind))) (range, tt);
-  exponents = subst (AllByRecursion IsNumeral) (sym (fold_raw-Int _ t.start (number_of t.kind))) tt;
+  names = subst (AllByRecursion (IsNameAt text)) (sym (fold_under-Int _ t.start (number_of t.kind))) tt;
+  literals = subst (AllByRecursion IsInRange) (sym (fold_under-Int _ t.start (number_of t.kind))) (range, tt);
+  exponents = subst (AllByRecursion IsNumeral) (sym (fold_under-Int _ t.start (number_of t.kind))) tt;
 }
 
 pub variable_found : (text : List ℕ) (t : Token) → IsNameAt text (span_of t) → IsFoundTerm text (variable t)
 variable_found text t here = record {
-  names = subst (AllByRecursion (IsNameAt text)) (sym (fold_raw-Var _ t.start (span_of t))) (here, tt);
-  literals = subst (AllByRecursion IsInRange) (sym (fold_raw-Var _ t.start (span_of t))) tt;
-  exponents = subst (AllByRecursion IsNumeral) (sym (fold_raw-Var _ t.start (span_of t))) tt;
+  names = subst (AllByRecursion (IsNameAt text)) (sym (fold_under-Var _ t.start (span_of t))) (here, tt);
+  literals = subst (AllByRecursion IsInRange) (sym (fold_under-Var _ t.start (span_of t))) tt;
+  exponents = subst (AllByRecursion IsNumeral) (sym (fold_under-Var _ t.start (span_of t))) tt;
 }
 
 -- ---- terms

@@ -8,7 +8,7 @@ use Rattle.alg_terms.specs.Nodes.{fold_term}
 use Rattle.alg_terms.specs.Term as terms
 use Rattle.alg_reader.specs.RawTerms.{fold_raw, depth_of}
 use Rattle.alg_reader.specs.TooDeep.{Depths, node_depths, over_one, over_two, node_over, first_too_deep, kept}
-use Rattle.alg_reader.proofs.Built.{fold_raw-Var, fold_raw-Int, fold_raw-Neg, fold_raw-Add, fold_raw-Sub, fold_raw-Mul, fold_raw-Div, fold_raw-Pow, fold_raw-Hom}
+use Rattle.alg_reader.proofs.Built.{fold_under-Var, fold_under-Int, fold_under-Neg, fold_under-Add, fold_under-Sub, fold_under-Mul, fold_under-Div, fold_under-Pow, fold_under-Hom}
 use Rattle.alg_reader.proofs.Depths.{depth_agrees}
 use Rattle.alg_reader.proofs.Held.{kept_whole}
 use Rattle.alg_printer.specs.Names.{var_name, hom_name}
@@ -45,42 +45,46 @@ two_shallow : (head depth other : ℕ) (d e : Depths) → 1 + max depth other �
 two_shallow head depth other d e low f g =
     ap (λ x. over_two head x e) f ∙ ap (over_two head (shallow depth)) g ∙ not_over head (1 + max depth other) low
 
+-- two parts, each where its level is wanted
+both_shallow : (file : File) (t u : Term) (head wanted at wanted' at' : ℕ) →
+    1 + max (terms.depth_of t) (terms.depth_of u) ≤ 1000 → IsShallow (written file t) (terms.depth_of t) →
+    IsShallow (written file u) (terms.depth_of u) →
+    over_two head (fold_raw node_depths (part_raw wanted (written file t) at))
+    (fold_raw node_depths (part_raw wanted' (written file u) at'))
+    ≡ shallow (1 + max (terms.depth_of t) (terms.depth_of u))
+both_shallow file t u head wanted at wanted' at' low left right =
+    two_shallow head (terms.depth_of t) (terms.depth_of u) _ _ low
+    (part_shallow wanted (written file t) (terms.depth_of t) left at)
+    (part_shallow wanted' (written file u) (terms.depth_of u) right at')
+
 -- of each term that is not too deep
 pub term_shallow : (file : File) (t : Term) → terms.depth_of t ≤ 1000 → IsShallow (written file t) (terms.depth_of t)
 unfolding fold_term
 term_shallow file (Var k) low at =
-    fold_raw-Var node_depths at (span at (var_name file k)) ∙ not_over at 1 (omega arith)
-term_shallow file (Int n) low at = fold_raw-Int node_depths at n ∙ not_over at 1 (omega arith)
+    fold_under-Var node_depths at (span at (var_name file k)) ∙ not_over at 1 (omega arith)
+term_shallow file (Int n) low at = fold_under-Int node_depths at n ∙ not_over at 1 (omega arith)
 term_shallow file (Neg' p (more_of-Term t r)) low at =
-    fold_raw-Neg node_depths at (part_raw 3 (written file t) (at + 1))
+    fold_under-Neg node_depths at (part_raw 3 (written file t) (at + 1))
     ∙ one_shallow at (terms.depth_of t) _ low
     (part_shallow 3 (written file t) (terms.depth_of t) (term_shallow file t (omega arith)) (at + 1))
 term_shallow file (Add' p (more_of-Term t r) q (more_of-Term u s)) low at =
-    fold_raw-Add node_depths _ _ _
-    ∙ two_shallow _ (terms.depth_of t) (terms.depth_of u) _ _ low
-    (part_shallow 1 (written file t) (terms.depth_of t) (term_shallow file t (omega arith)) _)
-    (part_shallow 2 (written file u) (terms.depth_of u) (term_shallow file u (omega arith)) _)
+    fold_under-Add node_depths _ _ _
+    ∙ both_shallow file t u _ 1 _ 2 _ low (term_shallow file t (omega arith)) (term_shallow file u (omega arith))
 term_shallow file (Sub' p (more_of-Term t r) q (more_of-Term u s)) low at =
-    fold_raw-Sub node_depths _ _ _
-    ∙ two_shallow _ (terms.depth_of t) (terms.depth_of u) _ _ low
-    (part_shallow 1 (written file t) (terms.depth_of t) (term_shallow file t (omega arith)) _)
-    (part_shallow 2 (written file u) (terms.depth_of u) (term_shallow file u (omega arith)) _)
+    fold_under-Sub node_depths _ _ _
+    ∙ both_shallow file t u _ 1 _ 2 _ low (term_shallow file t (omega arith)) (term_shallow file u (omega arith))
 term_shallow file (Mul' p (more_of-Term t r) q (more_of-Term u s)) low at =
-    fold_raw-Mul node_depths _ _ _
-    ∙ two_shallow _ (terms.depth_of t) (terms.depth_of u) _ _ low
-    (part_shallow 2 (written file t) (terms.depth_of t) (term_shallow file t (omega arith)) _)
-    (part_shallow 3 (written file u) (terms.depth_of u) (term_shallow file u (omega arith)) _)
+    fold_under-Mul node_depths _ _ _
+    ∙ both_shallow file t u _ 2 _ 3 _ low (term_shallow file t (omega arith)) (term_shallow file u (omega arith))
 term_shallow file (Div' p (more_of-Term t r) q (more_of-Term u s)) low at =
-    fold_raw-Div node_depths _ _ _
-    ∙ two_shallow _ (terms.depth_of t) (terms.depth_of u) _ _ low
-    (part_shallow 2 (written file t) (terms.depth_of t) (term_shallow file t (omega arith)) _)
-    (part_shallow 3 (written file u) (terms.depth_of u) (term_shallow file u (omega arith)) _)
+    fold_under-Div node_depths _ _ _
+    ∙ both_shallow file t u _ 2 _ 3 _ low (term_shallow file t (omega arith)) (term_shallow file u (omega arith))
 term_shallow file (Pow' p (more_of-Term t r) n) low at =
-    fold_raw-Pow node_depths _ _ _
+    fold_under-Pow node_depths _ _ _
     ∙ one_shallow _ (terms.depth_of t) _ low
     (part_shallow 5 (written file t) (terms.depth_of t) (term_shallow file t (omega arith)) at)
 term_shallow file (Hom' f p (more_of-Term t r)) low at =
-    fold_raw-Hom node_depths _ _ _
+    fold_under-Hom node_depths _ _ _
     ∙ one_shallow at (terms.depth_of t) _ low (term_shallow file t (omega arith) (at + length (hom_name file f) + 1))
 
 -- all of such a term is kept, and nothing in it is too deep

@@ -1,10 +1,11 @@
 -- The raw term of a canonical text resolves to the term, in the front of a file that has its names.
-use Rattle.std.proofs.Common.{◌≡◌, ◌<◌, ℕ, ℤ, ◌+◌, List, [], ◌∷◌, ◌++◌, length, Some, refl, ap, ◌∙◌, subst, arith}
+use Rattle.std.proofs.Common.{◌≡◌, ◌<◌, ℕ, ℤ, ◌+◌, List, [], ◌∷◌, ◌++◌, length, Some, refl, sym, ap, ◌∙◌, subst, arith}
 use Rattle.std.specs.Option.{option_map_or}
 use Rattle.alg_terms.specs.declared.file.File.{File}
 use Rattle.alg_terms.specs.declared.term.Term.{Term}
-use Rattle.alg_terms.specs.declared.term.Term.TheVariants.{Var, Int, Neg, Add, Sub, Mul, Div, Pow, Hom}
+use Rattle.alg_terms.specs.declared.term.Term.TheVariants.{Var, Neg, Add, Sub, Mul, Div, Pow, Hom}
 use Rattle.alg_terms.specs.Nodes.{fold_term, EachNode}
+use Rattle.alg_terms.proofs.Views.{Leaf, Unary, Binary, leaf, unary, binary, binary_node, each_binary, fold_binary, nodes_binary, induction}
 use Rattle.alg_terms.specs.TermRules.{IsInRange}
 use Rattle.alg_terms.specs.Valid.{names_of}
 use Rattle.alg_tokens.specs.declared.token.Sign.{Sign}
@@ -26,9 +27,8 @@ use Rattle.alg_typing.specs.Resolved.{number_at, term_of}
 use Rattle.alg_typing.proofs.DeclaredNames.{declared_var, declared_hom}
 use Rattle.alg_typing.proofs.FreshNames.{AreDistinct}
 use Rattle.alg_typing.proofs.Growing.{Grows}
-use Rattle.alg_typing.proofs.Induction.{induction}
 use Rattle.alg_printer.specs.Names.{var_name, hom_name}
-use Rattle.alg_reading_back.proofs.WrittenTerms.{WrittenTerm, written, raw_at, spaced, tight, space, sign, numeral, part_pieces, part_raw, in_parentheses, span}
+use Rattle.alg_reading_back.proofs.WrittenTerms.{WrittenTerm, node_written, written, raw_at, spaced, tight, space, sign, numeral, part_pieces, part_raw, in_parentheses, span}
 use Rattle.alg_reading_back.proofs.PiecesAt.{PiecesAt, pieces_at_left, pieces_at_right, part_as, span_bytes}
 
 module _ (file g : File) (text : List ℕ) (distinct : AreDistinct (names_of g)) (grows : Grows g file) where
@@ -113,59 +113,42 @@ module _ (file g : File) (text : List ℕ) (distinct : AreDistinct (names_of g))
       two_back node build is t u (at + w) (part_raw 2 l at) (part_raw 3 r ((at + w) + 1))
       (part_back t l 2 at back left) (part_back u r 3 ((at + w) + 1) back' right)
 
-  -- each operator is one
-  is_add : IsNodeOfTwo raw.Add Add
-  unfolding fold_under Rattle.alg_reader.specs.declared.raw.RawNode.TheBlock.hidden-the_row-RawTerm-0
-      denote.Hole.Carrier.hidden
-  is_add head l r = (refl, refl)
+  -- the raw node of each operation is one
+  abbrev raw_node : Binary → RawTerm → RawTerm → RawNode
+  raw_node Binary.Sum l r = raw.Add l r
+  raw_node Binary.Difference l r = raw.Sub l r
+  raw_node Binary.Product l r = raw.Mul l r
+  raw_node Binary.Quotient l r = raw.Div l r
 
-  is_sub : IsNodeOfTwo raw.Sub Sub
+  is_node : (o : Binary) → IsNodeOfTwo (raw_node o) (binary o)
   unfolding fold_under Rattle.alg_reader.specs.declared.raw.RawNode.TheBlock.hidden-the_row-RawTerm-0
       denote.Hole.Carrier.hidden
-  is_sub head l r = (refl, refl)
-
-  is_mul : IsNodeOfTwo raw.Mul Mul
-  unfolding fold_under Rattle.alg_reader.specs.declared.raw.RawNode.TheBlock.hidden-the_row-RawTerm-0
-      denote.Hole.Carrier.hidden
-  is_mul head l r = (refl, refl)
-
-  is_div : IsNodeOfTwo raw.Div Div
-  unfolding fold_under Rattle.alg_reader.specs.declared.raw.RawNode.TheBlock.hidden-the_row-RawTerm-0
-      denote.Hole.Carrier.hidden
-  is_div head l r = (refl, refl)
+  is_node Binary.Sum head l r = (refl, refl)
+  is_node Binary.Difference head l r = (refl, refl)
+  is_node Binary.Product head l r = (refl, refl)
+  is_node Binary.Quotient head l r = (refl, refl)
 
   abbrev Back : Term → Type 0
   Back t = EachNode (IsInRange g) t → ComesBack t (written file t)
 
-  var_back : (k : ℕ) → Back (Var k)
+  leaf_back : (l : Leaf) → Back (leaf l)
   unfolding fold_term fold_under EachNode
-  var_back k r at placed =
+  leaf_back (Leaf.Variable k) r at placed =
       let (number, used) =
       var_used k (span at (var_name file k)) r (span_bytes text at kinds.Name (var_name file k) [] placed) in
       (ap Var number, ap (λ names. names ++ []) used)
+  leaf_back (Leaf.Literal n) r at placed = (refl, refl)
 
-  int_back : (n : ℤ) → Back (Int n)
-  unfolding fold_term fold_under
-  int_back n r at placed = (refl, refl)
-
-  neg_back : (t : Term) → Back t → Back (Neg t)
+  unary_back : (o : Unary) (t : Term) → Back t → Back (unary o t)
   unfolding fold_term fold_under EachNode Rattle.alg_terms.specs.declared.term.Term.TheBlock.hidden-the_row-Term-0
       Rattle.alg_reader.specs.declared.raw.RawNode.TheBlock.hidden-the_row-RawTerm-0 denote.Hole.Carrier.hidden
-  neg_back t back r at placed =
+  unary_back Unary.Opposite t back r at placed =
       let (made, names) = part_back t (written file t) 3 (at + 1) (back r.1) placed.1 in (ap Neg made, names)
-
-  pow_back : (t : Term) (n : ℕ) → Back t → Back (Pow t n)
-  unfolding fold_term fold_under EachNode Rattle.alg_terms.specs.declared.term.Term.TheBlock.hidden-the_row-Term-0
-      Rattle.alg_reader.specs.declared.raw.RawNode.TheBlock.hidden-the_row-RawTerm-0 denote.Hole.Carrier.hidden
-  pow_back t n back r at placed =
+  unary_back (Unary.Power n) t back r at placed =
       let l = written file t in
       let base = pieces_at_left text at (part_pieces 5 l) (sign signs.Caret ∷ numeral n ∷ []) placed in
       let (made, names) = part_back t l 5 at (back r.1) base in (ap (λ x. Pow x n) made, names)
-
-  hom_back : (f : ℕ) (t : Term) → Back t → Back (Hom f t)
-  unfolding fold_term fold_under EachNode Rattle.alg_terms.specs.declared.term.Term.TheBlock.hidden-the_row-Term-0
-      Rattle.alg_reader.specs.declared.raw.RawNode.TheBlock.hidden-the_row-RawTerm-0 denote.Hole.Carrier.hidden
-  hom_back f t back r at placed =
+  unary_back (Unary.Image f) t back r at placed =
       let name = hom_name file f in
       let l = written file t in
       let (number, used) =
@@ -176,44 +159,20 @@ module _ (file g : File) (text : List ℕ) (distinct : AreDistinct (names_of g))
         ap (λ x. x ++ term_names g text (l.raw (at + length name + 1))) used ∙ names,
       )
 
-  add_back : (t u : Term) → Back t → Back u → Back (Add t u)
-  unfolding fold_term EachNode Rattle.alg_terms.specs.declared.term.Term.TheBlock.hidden-the_row-Term-0
-      denote.Hole.Carrier.hidden
-  add_back t u back back' r = spaced_back signs.Plus raw.Add Add refl is_add t u (written file t) (written file u)
-      (back r.1)
-      (back' r.2)
-
-  sub_back : (t u : Term) → Back t → Back u → Back (Sub t u)
-  unfolding fold_term EachNode Rattle.alg_terms.specs.declared.term.Term.TheBlock.hidden-the_row-Term-0
-      denote.Hole.Carrier.hidden
-  sub_back t u back back' r = spaced_back signs.Minus raw.Sub Sub refl is_sub t u (written file t) (written file u)
-      (back r.1)
-      (back' r.2)
-
-  mul_back : (t u : Term) → Back t → Back u → Back (Mul t u)
-  unfolding fold_term EachNode Rattle.alg_terms.specs.declared.term.Term.TheBlock.hidden-the_row-Term-0
-      denote.Hole.Carrier.hidden
-  mul_back t u back back' r = tight_back signs.Star raw.Mul Mul refl is_mul t u (written file t) (written file u)
-      (back r.1)
-      (back' r.2)
-
-  div_back : (t u : Term) → Back t → Back u → Back (Div t u)
-  unfolding fold_term EachNode Rattle.alg_terms.specs.declared.term.Term.TheBlock.hidden-the_row-Term-0
-      denote.Hole.Carrier.hidden
-  div_back t u back back' r = tight_back signs.Slash raw.Div Div refl is_div t u (written file t) (written file u)
-      (back r.1)
-      (back' r.2)
+  binary_back : (o : Binary) (t u : Term) → Back t → Back u → Back (binary o t u)
+  binary_back o t u back back' r =
+      let (here, left, right) = (nodes_binary (IsInRange g) o t u).0 r in
+      let l = written file t in
+      let m = written file u in
+      subst (ComesBack (binary o t u)) (sym (fold_binary (node_written file) o t u))
+      (each_binary (λ o. IsNodeOfTwo (raw_node o) (binary o) →
+      ComesBack (binary o t u) (node_written file (binary_node o l m)))
+      (λ is. spaced_back signs.Plus raw.Add Add refl is t u l m (back left) (back' right))
+      (λ is. spaced_back signs.Minus raw.Sub Sub refl is t u l m (back left) (back' right))
+      (λ is. tight_back signs.Star raw.Mul Mul refl is t u l m (back left) (back' right))
+      (λ is. tight_back signs.Slash raw.Div Div refl is t u l m (back left) (back' right))
+      o (is_node o))
 
   -- each term of the front comes back
   pub term_back : (t : Term) → Back t
-  term_back = induction Back (record {
-    var = var_back;
-    int = int_back;
-    neg = neg_back;
-    add = add_back;
-    sub = sub_back;
-    mul = mul_back;
-    div = div_back;
-    pow = pow_back;
-    hom = hom_back;
-  })
+  term_back = induction Back (record { of_leaf = leaf_back; of_unary = unary_back; of_binary = binary_back })

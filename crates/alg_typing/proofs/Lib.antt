@@ -9,7 +9,6 @@ pub mod Growing
 pub mod GrowingGoals
 pub mod GrowingOrder
 pub mod GrowingTerms
-pub mod Induction
 pub mod Kept
 pub mod Lookups
 pub mod MoreMembers
@@ -22,7 +21,6 @@ pub mod OccurringInFile
 pub mod Ordering
 pub mod Positions
 pub mod Quotients
-pub mod RawBuilt
 pub mod RawParts
 pub mod Resolving
 pub mod Small

@@ -1,5 +1,5 @@
 -- A term whose sorts have no faults has quotients where it may have them alone.
-use Rattle.std.proofs.Common.{◌≡◌, ℕ, Bool, true, false, List, [], ◌∷◌, Option, Some, refl}
+use Rattle.std.proofs.Common.{◌≡◌, ℕ, Bool, true, false, List, [], ◌∷◌, ◌++◌, Option, Some, refl}
 use Rattle.std.specs.Prelude.{All, not, ◌&&◌, ◌||◌}
 use Rattle.std.proofs.lemmas.Bool.{or_parts, and_parts}
 use Rattle.std.proofs.lemmas.List.Elements.{All-cons}
@@ -33,6 +33,10 @@ pub not_false : (b : Bool) → not b ≡ false → b ≡ true
 not_false true h = refl
 not_false false h = absurd (cc)
 
+-- of three lists that are empty together, the two last
+both_empty : {X : Type 0} (a b c : List X) → a ++ b ++ c ≡ [] → (b ≡ []) × (c ≡ [])
+both_empty a b c h = let (front, back) = parts_empty (a ++ b) c h in ((parts_empty a b front).1, back)
+
 module _ (file : File) (text : List ℕ) where
   -- where no quotient may stand, none does
   pub no_quotient : (head : ℕ) (node : RawNode) (final : Option ℕ) (in_fields : Bool) →
@@ -44,16 +48,13 @@ module _ (file : File) (text : List ℕ) where
   no_quotient head (Int n) final in_fields h = tt
   no_quotient head (Neg' _ (more_of-RawTerm k t _)) final in_fields h = (tt, no_quotient k t final in_fields h)
   no_quotient head (Add' _ (more_of-RawTerm k t _) _ (more_of-RawTerm l u _)) final in_fields h =
-      let (front, right) = parts_empty _ _ h in
-      let (sorts, left) = parts_empty _ _ front in
+      let (left, right) = both_empty _ _ _ h in
       (tt, no_quotient k t final in_fields left, no_quotient l u final in_fields right)
   no_quotient head (Sub' _ (more_of-RawTerm k t _) _ (more_of-RawTerm l u _)) final in_fields h =
-      let (front, right) = parts_empty _ _ h in
-      let (sorts, left) = parts_empty _ _ front in
+      let (left, right) = both_empty _ _ _ h in
       (tt, no_quotient k t final in_fields left, no_quotient l u final in_fields right)
   no_quotient head (Mul' _ (more_of-RawTerm k t _) _ (more_of-RawTerm l u _)) final in_fields h =
-      let (front, right) = parts_empty _ _ h in
-      let (sorts, left) = parts_empty _ _ front in
+      let (left, right) = both_empty _ _ _ h in
       (tt, no_quotient k t final in_fields left, no_quotient l u final in_fields right)
   no_quotient head (Div' _ (more_of-RawTerm k t _) _ (more_of-RawTerm l u _)) final in_fields h =
       let (here, rest) = parts_empty _ _ h in
@@ -83,17 +84,11 @@ module _ (file : File) (text : List ℕ) where
   in_fields head (Int n) s b above up h = tt
   in_fields head (Neg' _ (more_of-RawTerm k t _)) s b above up h = (tt, in_fields k t s b above up h)
   in_fields head (Add' _ (more_of-RawTerm k t _) _ (more_of-RawTerm l u _)) s b above up h =
-      let (front, right) = parts_empty _ _ h in
-      let (sorts, left) = parts_empty _ _ front in
-      (tt, in_fields k t s b above up left, in_fields l u s b above up right)
+      let (left, right) = both_empty _ _ _ h in (tt, in_fields k t s b above up left, in_fields l u s b above up right)
   in_fields head (Sub' _ (more_of-RawTerm k t _) _ (more_of-RawTerm l u _)) s b above up h =
-      let (front, right) = parts_empty _ _ h in
-      let (sorts, left) = parts_empty _ _ front in
-      (tt, in_fields k t s b above up left, in_fields l u s b above up right)
+      let (left, right) = both_empty _ _ _ h in (tt, in_fields k t s b above up left, in_fields l u s b above up right)
   in_fields head (Mul' _ (more_of-RawTerm k t _) _ (more_of-RawTerm l u _)) s b above up h =
-      let (front, right) = parts_empty _ _ h in
-      let (sorts, left) = parts_empty _ _ front in
-      (tt, in_fields k t s b above up left, in_fields l u s b above up right)
+      let (left, right) = both_empty _ _ _ h in (tt, in_fields k t s b above up left, in_fields l u s b above up right)
   in_fields head (Div' _ (more_of-RawTerm k t _) _ (more_of-RawTerm l u _)) s b above up h =
       let (here, rest) = parts_empty (quotient file text true head (Some s) b) _ h in
       let (front, right) = parts_empty _ ((sorted_under file text true l u).faults (Some s) b) rest in

@@ -11,7 +11,7 @@ use Rattle.std.specs.Int.RustNames.{unsigned_abs}
 use Rattle.alg_terms.specs.Limits.{MAX_EXPONENT}
 use Rattle.alg_typing.specs.TermsOf.{IsTermOf, IsSmallTermOf, IsExponent}
 use Rattle.alg_typing.proofs.Ordering.{all_left as first_all, all_right as last_all}
-use Rattle.alg_typing.proofs.RawBuilt.{fold_under-Neg, fold_under-Add, fold_under-Sub, fold_under-Mul, fold_under-Div, fold_under-Pow, fold_under-Hom}
+use Rattle.alg_reader.proofs.Built.{fold_under-Neg, fold_under-Add, fold_under-Sub, fold_under-Mul, fold_under-Div, fold_under-Pow, fold_under-Hom}
 
 -- the node of a term is an operator on two parts
 abbrev pub Joins : RawTerm → RawTerm → RawTerm → Type 0

@@ -18,7 +18,7 @@ use Rattle.alg_reader.specs.RawTerms.{fold_under, exponents_of_node}
 use Rattle.alg_reader.specs.WellRead.{IsWellEquation, IsWellTerm}
 use Rattle.alg_typing.specs.Resolved.{term_of}
 use Rattle.alg_typing.specs.SortFaults.{option_range, equation_sorts, method_sorts, sort_of_sides}
-use Rattle.alg_typing.specs.TermSorts.{sorted, node_sorted, exponent}
+use Rattle.alg_typing.specs.TermSorts.{sorted, node_sorted, exponent, operator}
 use Rattle.alg_typing.specs.TermsOf.{IsExponent, IsSmallTermOf, HasSmallOptions}
 use Rattle.alg_typing.proofs.GrowingTerms.{or_same}
 use Rattle.alg_typing.proofs.NumbersInRange.{parts_empty, no_fault}
@@ -27,6 +27,15 @@ use Rattle.alg_typing.proofs.Resolving.{own_resolved}
 use Rattle.alg_typing.proofs.SortedTerms.{exponent_in_range}
 
 module _ (file : File) (text : List ℕ) (may : Bool) where
+  -- the parts of an operator without faults have none
+  operator_empty : (head k l : ℕ) (t u : RawNode) (final : Option ℕ) (in_fields : Bool) →
+      (operator head (fold_under (node_sorted file text may) k t)
+      (fold_under (node_sorted file text may) l u)).faults final in_fields ≡ [] →
+      ((fold_under (node_sorted file text may) k t).faults final in_fields ≡ [])
+      × ((fold_under (node_sorted file text may) l u).faults final in_fields ≡ [])
+  operator_empty head k l t u final in_fields h =
+      let (front, back) = parts_empty _ _ h in ((parts_empty _ _ front).1, back)
+
   -- the exponents of a node without faults
   exponents_under : (head : ℕ) (n : RawNode) (final : Option ℕ) (in_fields : Bool) →
       (fold_under (node_sorted file text may) head n).faults final in_fields ≡ [] →
@@ -36,22 +45,17 @@ module _ (file : File) (text : List ℕ) (may : Bool) where
   exponents_under head (Int n) final in_fields h = All-nil IsExponent
   exponents_under head (Neg' _ (more_of-RawTerm k t _)) final in_fields h = exponents_under k t final in_fields h
   exponents_under head (Add' _ (more_of-RawTerm k t _) _ (more_of-RawTerm l u _)) final in_fields h =
-      let two = parts_empty _ ((fold_under (node_sorted file text may) l u).faults final in_fields) h in
-      let one = parts_empty _ ((fold_under (node_sorted file text may) k t).faults final in_fields) two.0 in
-      All-append IsExponent _ _ (exponents_under k t final in_fields one.1) (exponents_under l u final in_fields two.1)
+      let (left, right) = operator_empty head k l t u final in_fields h in
+      All-append IsExponent _ _ (exponents_under k t final in_fields left) (exponents_under l u final in_fields right)
   exponents_under head (Sub' _ (more_of-RawTerm k t _) _ (more_of-RawTerm l u _)) final in_fields h =
-      let two = parts_empty _ ((fold_under (node_sorted file text may) l u).faults final in_fields) h in
-      let one = parts_empty _ ((fold_under (node_sorted file text may) k t).faults final in_fields) two.0 in
-      All-append IsExponent _ _ (exponents_under k t final in_fields one.1) (exponents_under l u final in_fields two.1)
+      let (left, right) = operator_empty head k l t u final in_fields h in
+      All-append IsExponent _ _ (exponents_under k t final in_fields left) (exponents_under l u final in_fields right)
   exponents_under head (Mul' _ (more_of-RawTerm k t _) _ (more_of-RawTerm l u _)) final in_fields h =
-      let two = parts_empty _ ((fold_under (node_sorted file text may) l u).faults final in_fields) h in
-      let one = parts_empty _ ((fold_under (node_sorted file text may) k t).faults final in_fields) two.0 in
-      All-append IsExponent _ _ (exponents_under k t final in_fields one.1) (exponents_under l u final in_fields two.1)
+      let (left, right) = operator_empty head k l t u final in_fields h in
+      All-append IsExponent _ _ (exponents_under k t final in_fields left) (exponents_under l u final in_fields right)
   exponents_under head (Div' _ (more_of-RawTerm k t _) _ (more_of-RawTerm l u _)) final in_fields h =
-      let all = parts_empty _ _ h in
-      let two = parts_empty _ ((fold_under (node_sorted file text may) l u).faults final in_fields) all.1 in
-      let one = parts_empty _ ((fold_under (node_sorted file text may) k t).faults final in_fields) two.0 in
-      All-append IsExponent _ _ (exponents_under k t final in_fields one.1) (exponents_under l u final in_fields two.1)
+      let (left, right) = operator_empty head k l t u final in_fields (parts_empty _ _ h).1 in
+      All-append IsExponent _ _ (exponents_under k t final in_fields left) (exponents_under l u final in_fields right)
   exponents_under head (Pow' _ (more_of-RawTerm k t _) n) final in_fields h =
       let parts = parts_empty (exponent n) _ h in
       All-cons IsExponent n _ (exponent_in_range n parts.0) (exponents_under k t final in_fields parts.1)

@@ -18,7 +18,7 @@ use Rattle.alg_typing.specs.Faults.{earlier_of, fault_if, first_of}
 use Rattle.alg_typing.specs.Resolved.{number_at}
 use Rattle.alg_typing.specs.TermSorts.{Sorted, differ, is_field, operator, quotient, sorted, node_sorted}
 use Rattle.alg_typing.proofs.Firsts.{first_of-append, earlier_of-assoc}
-use Rattle.alg_typing.proofs.RawBuilt.{fold_under-Add, fold_under-Sub, fold_under-Mul, fold_under-Div, fold_under-Hom}
+use Rattle.alg_reader.proofs.Built.{fold_under-Add, fold_under-Sub, fold_under-Mul, fold_under-Div, fold_under-Hom}
 use Rattle.alg_typing.proofs.RawParts.{Joins}
 
 -- the node of a term is an operator other than a quotient

@@ -16,7 +16,7 @@ use Rattle.alg_reader.specs.declared.raw.RawNode.{RawNode, more_of-RawTerm, Var,
 use Rattle.alg_reader.specs.declared.raw.RawNumber.{RawNumber}
 use Rattle.alg_reader.specs.RawTerms.{fold_under, of_parts, literals_of_node}
 use Rattle.alg_typing.specs.Resolved.{number_at}
-use Rattle.alg_typing.specs.TermSorts.{differ, exponent}
+use Rattle.alg_typing.specs.TermSorts.{differ, exponent, operator}
 use Rattle.alg_typing.proofs.NumbersInRange.{parts_empty, no_fault}
 use Rattle.alg_typing.proofs.FreshNames.{recursion_left, recursion_right}
 use Rattle.alg_typing.proofs.Resolving.{agree_if, resolved, sorted_under, own_resolved}
@@ -60,6 +60,25 @@ module _ (file : File) (text : List ℕ) where
       subst (λ s. Agree s (own_sort file (resolved file text l u))) (own_resolved file text b k t)
       (subst (λ s. Agree (sorted_under file text b k t).own s) (own_resolved file text b l u) (agree_if _ _ h))
 
+  -- an operator without faults over parts that keep the rules: the rules of exponents, sorts and arguments for both
+  -- parts, and that their own sorts agree
+  operator_kept : (b : Bool) (head k l : ℕ) (t u : RawNode) (final : Option ℕ) (in_fields : Bool) →
+      (operator head (sorted_under file text b k t) (sorted_under file text b l u)).faults final in_fields ≡ [] →
+      ((sorted_under file text b k t).faults final in_fields ≡ [] → KeepsRules file (resolved file text k t)) →
+      ((sorted_under file text b l u).faults final in_fields ≡ [] → KeepsRules file (resolved file text l u)) →
+      (Unit {0} × EachNode HasExponent (resolved file text k t) × EachNode HasExponent (resolved file text l u))
+      × (Agree (own_sort file (resolved file text k t)) (own_sort file (resolved file text l u))
+      × EachNode (HasAgreeingParts file) (resolved file text k t)
+      × EachNode (HasAgreeingParts file) (resolved file text l u))
+      × (Unit {0} × EachNode (HasFittingArgument file) (resolved file text k t)
+      × EachNode (HasFittingArgument file) (resolved file text l u))
+  operator_kept b head k l t u final in_fields h left right =
+      let (front, back) = parts_empty _ _ h in
+      let (sorts, middle) = parts_empty _ _ front in
+      let (e, p, a) = left middle in
+      let (f, q, c) = right back in
+      ((tt, e, f), (agree b k t l u (no_fault _ code.Sort head sorts), p, q), (tt, a, c))
+
   pub rules_kept : (b : Bool) (head : ℕ) (node : RawNode) (final : Option ℕ) (in_fields : Bool) →
       (sorted_under file text b head node).faults final in_fields ≡ [] → KeepsRules file (resolved file text head node)
   unfolding fold_under EachNode
@@ -69,30 +88,14 @@ module _ (file : File) (text : List ℕ) where
   rules_kept b head (Neg' _ (more_of-RawTerm k t _)) final in_fields h =
       let (e, p, a) = rules_kept b k t final in_fields h in ((tt, e), (tt, p), (tt, a))
   rules_kept b head (Add' _ (more_of-RawTerm k t _) _ (more_of-RawTerm l u _)) final in_fields h =
-      let (front, right) = parts_empty _ _ h in
-      let (sorts, left) = parts_empty _ _ front in
-      let (e, p, a) = rules_kept b k t final in_fields left in
-      let (f, q, c) = rules_kept b l u final in_fields right in
-      ((tt, e, f), (agree b k t l u (no_fault _ code.Sort head sorts), p, q), (tt, a, c))
+      operator_kept b head k l t u final in_fields h (rules_kept b k t final in_fields) (rules_kept b l u final in_fields)
   rules_kept b head (Sub' _ (more_of-RawTerm k t _) _ (more_of-RawTerm l u _)) final in_fields h =
-      let (front, right) = parts_empty _ _ h in
-      let (sorts, left) = parts_empty _ _ front in
-      let (e, p, a) = rules_kept b k t final in_fields left in
-      let (f, q, c) = rules_kept b l u final in_fields right in
-      ((tt, e, f), (agree b k t l u (no_fault _ code.Sort head sorts), p, q), (tt, a, c))
+      operator_kept b head k l t u final in_fields h (rules_kept b k t final in_fields) (rules_kept b l u final in_fields)
   rules_kept b head (Mul' _ (more_of-RawTerm k t _) _ (more_of-RawTerm l u _)) final in_fields h =
-      let (front, right) = parts_empty _ _ h in
-      let (sorts, left) = parts_empty _ _ front in
-      let (e, p, a) = rules_kept b k t final in_fields left in
-      let (f, q, c) = rules_kept b l u final in_fields right in
-      ((tt, e, f), (agree b k t l u (no_fault _ code.Sort head sorts), p, q), (tt, a, c))
+      operator_kept b head k l t u final in_fields h (rules_kept b k t final in_fields) (rules_kept b l u final in_fields)
   rules_kept b head (Div' _ (more_of-RawTerm k t _) _ (more_of-RawTerm l u _)) final in_fields h =
-      let (here, rest) = parts_empty _ _ h in
-      let (front, right) = parts_empty _ _ rest in
-      let (sorts, left) = parts_empty _ _ front in
-      let (e, p, a) = rules_kept b k t final in_fields left in
-      let (f, q, c) = rules_kept b l u final in_fields right in
-      ((tt, e, f), (agree b k t l u (no_fault _ code.Sort head sorts), p, q), (tt, a, c))
+      operator_kept b head k l t u final in_fields (parts_empty _ _ h).1 (rules_kept b k t final in_fields)
+      (rules_kept b l u final in_fields)
   rules_kept b head (Pow' _ (more_of-RawTerm k t _) n) final in_fields h =
       let (here, rest) = parts_empty _ _ h in
       let (e, p, a) = rules_kept b k t final in_fields rest in

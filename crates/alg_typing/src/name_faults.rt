@@ -31,7 +31,7 @@ impl Scope<'_> {
     }
 
     /// The first fault of the names of a term.
-    #[tactic(auto, using(crate::proofs::RawBuilt::raw_built, crate::proofs::Firsts::firsts))]
+    #[tactic(auto, using(alg_reader::proofs::Built::raw_built, crate::proofs::Firsts::firsts))]
     pub(crate) fn term_names(&self, term: &RawTerm) -> Option<Refusal>
         requires { IsTermOf self.now.text.now term.now }
         ensures { result ≡ first_of (term_names self.now.declared.now self.now.text.now term.now) }

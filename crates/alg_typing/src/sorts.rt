@@ -100,7 +100,7 @@ impl Scope<'_> {
     }
 
     /// A term's own sort. Names are resolved as in a term without faults of names.
-    #[tactic(auto, using(crate::proofs::RawBuilt::raw_built))]
+    #[tactic(auto, using(alg_reader::proofs::Built::raw_built))]
     pub(crate) fn own_sort(&self, term: &RawTerm) -> Option<u32>
         requires { IsTermOf self.now.text.now term.now }
         ensures { result ≡ (sorted self.now.declared.now self.now.text.now false term.now).own }
@@ -121,7 +121,7 @@ impl Scope<'_> {
 
     /// A term's own sort, and the first fault of the sorts, exponents and quotients in it where it
     /// stands so. Linear in the term.
-    #[tactic(auto, using(crate::proofs::RawBuilt::raw_built, crate::proofs::Firsts::firsts))]
+    #[tactic(auto, using(alg_reader::proofs::Built::raw_built, crate::proofs::Firsts::firsts))]
     pub(crate) fn check(&self, term: &RawTerm, at: Context) -> Checked
         requires { IsTermOf self.now.text.now term.now }
         ensures { IsCheckOf self.now.declared.now self.now.text.now at term.now result }

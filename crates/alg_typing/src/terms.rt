@@ -15,7 +15,7 @@ use std::alloc::Global;
 impl Scope<'_> {
     /// The term with the numbers of what it names. Linear in the term.
     #[cycle(terms)]
-    #[tactic(auto, using(crate::proofs::RawBuilt::raw_built))]
+    #[tactic(auto, using(alg_reader::proofs::Built::raw_built))]
     pub(crate) fn term_of(&self, alloc: Global, raw: &RawTerm) -> Result<Term, NoMemory>
         requires { IsSmallTermOf self.now.text.now raw.now }
         ensures { IfOk result (λ term. term ≡ term_of self.now.declared.now self.now.text.now raw.now) }

@@ -1,7 +1,7 @@
 use Rattle.std.proofs.Common.{◌≡◌, ◌≢◌, ◌<◌, [], length, codes, refl, ap, ◌∙◌, sym, subst, Err, rules}
 use Rattle.alg_cli.specs.declared.command.Command.TheVariants as command
 use Rattle.alg_cli.specs.declared.status.Status.TheVariants.{Refused, Usage}
-use Rattle.alg_cli.specs.Commands.{command_of, ReadsInput}
+use Rattle.alg_cli.specs.Commands.{command_of}
 use Rattle.alg_cli.specs.Replies.{IsReplyTo}
 use Rattle.alg_cli.specs.Runs.{IsReply, RepliesUnlessNoMemory, change}
 use Rattle.alg_cli.proofs.Commands.{reads_unless_usage, works_on_input, may_refuse, no_failure, usage_reply, too_large}
