@@ -4,6 +4,7 @@ pub mod Numbered
 pub mod NumberedFractions
 pub mod Making
 pub mod RingVerdict
+pub mod FieldVerdict
 pub mod Stops
 pub mod Laws
 pub mod Tried
