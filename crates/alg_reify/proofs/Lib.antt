@@ -11,7 +11,10 @@ pub mod Likes
 pub mod Made
 pub mod NearSums
 pub mod NumberedFractions
-pub mod NumberedRules
+pub mod KeptFractions
+pub mod FractionsIn
+pub mod FractionsAlong
+pub mod FractionsUnder
 pub mod Numbering
 pub mod Once
 pub mod Parts

@@ -1,7 +1,9 @@
 pub mod Table
 pub mod Adding
 pub mod Numbered
+pub mod KeptFractions
 pub mod NumberedFractions
+pub mod FractionsUnder
 pub mod Making
 pub mod RingVerdict
 pub mod FieldVerdict

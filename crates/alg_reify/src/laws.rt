@@ -1,6 +1,7 @@
 //! What holds of numbered polynomials and of the verdicts by ring. The functions do nothing: their
 //! contracts are the laws.
 
+ghost use Rattle.alg_reify.specs.FractionsUnder.{FractionsUnderPaths};
 ghost use Rattle.alg_reify.specs.NumberedFractions.{NumberingKeeps};
 ghost use Rattle.alg_reify.specs.Laws.{NumberedCoefficients, OneRingVerdict, NoDiffers, NoIsOverTheTable, NoIsWithinRange};
 
@@ -14,6 +15,14 @@ pub fn numbered_coefficients()
 /// break, and whether a numerator is zero, 1 or -1, or a constant.
 pub fn numbering_keeps_fractions()
     ensures { NumberingKeeps }
+{}
+
+/// The fraction of a term under a path of morphisms is one over the table that holds the term's atoms,
+/// and by the numbers of the atoms it is made node by node from those of its parts, the part of an
+/// image under the longer path. On the way the same rules are broken, and the tests on numerators
+/// give the same.
+pub fn fractions_under_paths()
+    ensures { FractionsUnderPaths }
 {}
 
 /// An equation has at most one verdict by ring.
