@@ -1,0 +1,7 @@
+pub mod Order
+pub mod ListMaps
+pub mod Beyond
+pub mod Puts
+pub mod Places
+pub mod Measures
+pub mod Within
