@@ -5,3 +5,4 @@ pub mod Puts
 pub mod Places
 pub mod Measures
 pub mod Within
+pub mod Right

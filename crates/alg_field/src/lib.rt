@@ -3,6 +3,7 @@
 #![tactic(auto)]
 
 mod bounds;
+pub mod laws;
 mod lists;
 
 pub use alg_horner::HornerPoly;
