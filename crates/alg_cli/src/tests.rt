@@ -1,5 +1,6 @@
 //! Runs of the top call, each over memory.
 
+mod by_field;
 mod rows;
 
 use crate::laws::reads_back;
@@ -27,34 +28,35 @@ fn joined(alloc: Global, first: &str, second: &str) -> Result<Vec<u8>, Fail> {
 fn prove_run(alloc: Global, input: Vec<u8>) -> Result<(Vec<u8>, Status), Fail> {
     let words = prove(alloc)?;
     let mut source = MemSource::new(input, 1000, Vec::new(alloc));
-    let mut sink = MemSink::new(alloc, 20_000, 1000, Vec::new(alloc))?;
+    let mut sink = MemSink::new(alloc, 100_000, 1000, Vec::new(alloc))?;
     let status = run::<Rats, _, _>(alloc, words.as_slice(), &mut source, &mut sink);
     Ok((sink.bytes().to_vec(alloc)?, status))
 }
 
 #[test]
 fn each_goal_is_written_back_with_its_answer(rt: HostRuntime) -> Result<(), Fail> {
-    for row in &ANSWERED {
-        let input = joined(rt.alloc(), row.file, "")?;
-        let (output, status) = prove_run(rt.alloc(), input)?;
-        let shows = row.shows;
-        assert_eq!(rt;
-            output,
-            joined(rt.alloc(), row.file, row.answer)?,
-            "{shows}"
-        );
-        assert_eq!(rt; status, row.status, "{shows}");
+    for rows in [ANSWERED.as_slice(), by_field::ANSWERED.as_slice()] {
+        for row in rows {
+            let input = joined(rt.alloc(), row.file, "")?;
+            let (output, status) = prove_run(rt.alloc(), input)?;
+            let wanted = joined(rt.alloc(), row.file, row.answer)?;
+            let shows = row.shows;
+            assert_eq!(rt; output, wanted, "{shows}");
+            assert_eq!(rt; status, row.status, "{shows}");
+        }
     }
     Ok(())
 }
 
 #[test]
 fn files_and_faults_are_told(rt: HostRuntime) -> Result<(), Fail> {
-    for row in &ROWS {
-        let (output, status) = prove_run(rt.alloc(), row.input.to_vec(rt.alloc())?)?;
-        let shows = row.shows;
-        assert_eq!(rt; output.as_slice(), row.output.as_bytes(), "{shows}");
-        assert_eq!(rt; status, row.status, "{shows}");
+    for rows in [ROWS.as_slice(), by_field::ROWS.as_slice()] {
+        for row in rows {
+            let (output, status) = prove_run(rt.alloc(), row.input.to_vec(rt.alloc())?)?;
+            let shows = row.shows;
+            assert_eq!(rt; output.as_slice(), row.output.as_bytes(), "{shows}");
+            assert_eq!(rt; status, row.status, "{shows}");
+        }
     }
     Ok(())
 }
@@ -122,6 +124,40 @@ fn a_goal_has_at_most_1000_atoms(rt: HostRuntime) -> Result<(), Fail> {
     let (output, status) = prove_run(rt.alloc(), input)?;
     assert_eq!(rt; output, wanted);
     assert_eq!(rt; status, Status::NotAll);
+    Ok(())
+}
+
+/// 1/(1/(..x)), so many quotients deep, and x where there is none.
+fn nested(alloc: Global, count: u32) -> Result<Vec<u8>, Fail> {
+    let mut term = Vec::new(alloc);
+    for k in 0..count {
+        let front: &[u8] = if k + 1 < count { b"1/(" } else { b"1/" };
+        term.extend_from_slice(front)?;
+    }
+    term.push(b'x')?;
+    for _ in 1..count {
+        term.push(b')')?;
+    }
+    Ok(term)
+}
+
+#[test]
+fn quotients_may_be_190_deep(rt: HostRuntime) -> Result<(), Fail> {
+    let mut input = Vec::from_slice(rt.alloc(), b"field F.\nvar x : F.\ngoal ")?;
+    input.extend_from_slice(nested(rt.alloc(), 190)?.as_slice())?;
+    input.extend_from_slice(b" = x by field.\n")?;
+    let mut wanted = Vec::from_slice(rt.alloc(), input.as_slice())?;
+    // Those of an odd depth have the numerator 1, so they are no conditions.
+    wanted.extend_from_slice(b"  proved if x <> 0")?;
+    for k in 1..95 {
+        wanted.extend_from_slice(b", ")?;
+        wanted.extend_from_slice(nested(rt.alloc(), 2 * k)?.as_slice())?;
+        wanted.extend_from_slice(b" <> 0")?;
+    }
+    wanted.extend_from_slice(b".\n")?;
+    let (output, status) = prove_run(rt.alloc(), input)?;
+    assert_eq!(rt; output, wanted);
+    assert_eq!(rt; status, Status::Done);
     Ok(())
 }
 

@@ -4,7 +4,7 @@ ghost use Rattle.std.specs.Prelude.{◌≡◌, ◌≢◌, ◌⊎◌, ◌≤◌, 
 ghost use Rattle.alg_outside.specs.Bytes.{IsReadToEnd};
 ghost use Rattle.alg_outside.specs.Faults.{Rose};
 ghost use Rattle.alg_terms.specs.Valid.{IsValid};
-ghost use Rattle.alg_terms.specs.declared.goals.Method.TheVariants.{ByRing};
+ghost use Rattle.alg_terms.specs.GoalRules.{IsRingOrField};
 ghost use Rattle.alg_cli.specs.Commands.{command_of, most_bytes, ReadsInput};
 ghost use Rattle.alg_cli.specs.Runs.{IsReply, IsFailure, IsStatusOf, WritesByStatus, WritesAll, WritesPrefix, RepliesUnlessNoMemory, change};
 ghost use Rattle.alg_cli.specs.Replies.{IsReplyTo, IsFileReply};
@@ -133,7 +133,7 @@ fn proved<U: Universe>(alloc: Global, bytes: &[u8]) -> Result<Reply, AllocError>
 /// The file with the answers to its goals.
 fn answered(alloc: Global, file: &File) -> Result<Reply, AllocError>
     requires valid { IsValid file.now }
-    requires by_ring { All (λ goal. goal.method ≡ ByRing) file.now.goals }
+    requires methods { All (λ goal. IsRingOrField goal.method) file.now.goals }
     ensures reply { IfOk result (λ reply. IsFileReply file.now reply.text.items reply.status) }
     ensures status { IfOk result (λ reply. IsStatusOf Command.Prove reply.status) }
 {

@@ -9,7 +9,7 @@ use Rattle.alg_terms.specs.declared.file.Statement.{Statement}
 use Rattle.alg_terms.specs.declared.goals.Goal.{Goal}
 use Rattle.alg_terms.specs.declared.goals.Method.TheVariants.{ByRing}
 use Rattle.alg_terms.specs.Limits.{MAX_LITERAL}
-use Rattle.alg_terms.specs.GoalRules.{IsGoal}
+use Rattle.alg_terms.specs.GoalRules.{IsGoal, IsRingOrField}
 use Rattle.alg_terms.specs.Members.{sort_of_var}
 use Rattle.alg_terms.specs.Names.{IsName}
 use Rattle.alg_terms.specs.Nodes.{fold_term}
@@ -108,7 +108,7 @@ example_is_valid = record {
 pub is_valid : (file : File) → file ≡ example → IsValid file
 is_valid file is = subst IsValid (sym is) example_is_valid
 
-pub are_by_ring : (file : File) → file ≡ example → All (λ goal. goal.method ≡ ByRing) file.goals
+pub are_by_ring : (file : File) → file ≡ example → All (λ goal. IsRingOrField goal.method) file.goals
 are_by_ring file is =
-    let IsByRing : Goal → Type 0 = λ goal. goal.method ≡ ByRing in
-    subst (λ f. All IsByRing f.goals) (sym is) (All-from_recursion IsByRing example.goals (refl, (refl, tt)))
+    let Is : Goal → Type 0 = λ goal. IsRingOrField goal.method in
+    subst (λ f. All Is f.goals) (sym is) (All-from_recursion Is example.goals (tt, (tt, tt)))

@@ -1,4 +1,4 @@
--- The answer no to a goal by ring can be printed.
+-- The answers to goals by ring and by field can be printed.
 use Rattle.std.specs.Prelude.{◌≡◌, ◌≤◌, ◌<◌, ℕ, ℤ, List, [], ◌∷◌, length, nat_le, if◌then◌else◌, unsigned_abs}
 use Rattle.std.proofs.Common.{sym, ap, subst, ◌∙◌, arith}
 use Rattle.std.proofs.lemmas.Bool.{le-leb}
@@ -7,22 +7,24 @@ use Rattle.std.proofs.lemmas.Int.{ints, to_z-of_z}
 use mir.Val.{to_z, of_z}
 use mir.Syntax.{w128}
 use Rattle.std.specs.Ordering.{nat_cmp}
-use Rattle.alg_lines.specs.declared.answer.Answer.TheVariants.{No}
+use Rattle.alg_lines.specs.declared.answer.Answer.TheVariants.{Proved, No, ZeroDenominator}
 use Rattle.alg_mono.specs.FiniteMaps.{Each}
 use Rattle.alg_mono.specs.Mono.{Monomial}
 use Rattle.alg_mono.specs.Monomials.{IsMono}
 use Rattle.alg_mono.specs.Polynomials.{MAX}
 use Rattle.alg_printer.specs.Monomials.{goal_atoms, IsOverAtoms}
 use Rattle.alg_printer.specs.Printable.{IsPrintable, HasForm, IsInteger}
+use Rattle.alg_reify.specs.FieldLaws.{FieldNoIsOverTheTable, FieldNoIsWithinRange, FieldTermsMayStand}
+use Rattle.alg_reify.specs.FieldVerdict.{FieldVerdict, IsFieldVerdict}
 use Rattle.alg_reify.specs.Laws.{NoIsOverTheTable, NoIsWithinRange}
 use Rattle.alg_reify.specs.RingVerdict.{RingVerdict, IsRingVerdict, own_table}
 use Rattle.alg_reify.specs.Table.{table, MAX_ATOMS}
 use Rattle.alg_terms.specs.declared.file.File.{File}
 use Rattle.alg_terms.specs.declared.goals.Goal.{Goal}
-use Rattle.alg_terms.specs.declared.goals.Method.{Method}
-use Rattle.alg_terms.specs.declared.goals.Method.TheVariants.{ByRing}
+use Rattle.alg_terms.specs.declared.goals.Method.TheVariants.{ByRing, ByField}
 use Rattle.alg_terms.specs.declared.term.Atom.{Atom}
-use Rattle.alg_terms.specs.GoalRules.{IsEquation}
+use Rattle.alg_terms.specs.declared.term.Term.{Term}
+use Rattle.alg_terms.specs.GoalRules.{IsEquation, IsGoal}
 use Rattle.alg_terms.specs.Members.{uses_of}
 
 -- the atoms of a monomial are among as many
@@ -34,12 +36,12 @@ each_over atoms (e ∷ m) h = All-cons (λ (e : ℕ × ℕ). e.0 < length atoms)
 few : (atoms : List Atom) → length atoms ≤ MAX_ATOMS → (if nat_le (length atoms) MAX_ATOMS then atoms else []) ≡ atoms
 few atoms small = ap (λ b. if b then atoms else []) (le-leb (length atoms) MAX_ATOMS small)
 
--- the atoms of the answer to a goal by ring are those of its equation
-atoms_by_ring : (file : File) (goal : Goal) → goal.method ≡ ByRing → length (own_table file goal.equation) ≤ MAX_ATOMS →
+-- the atoms of the answer to a goal without uses are those of its equation
+own_atoms : (file : File) (goal : Goal) → uses_of goal.method ≡ [] → length (own_table file goal.equation) ≤ MAX_ATOMS →
     goal_atoms file goal ≡ own_table file goal.equation
-atoms_by_ring file goal by_ring small =
-    ap (λ (method : Method). let atoms = table file goal.equation (uses_of method) in
-    if nat_le (length atoms) MAX_ATOMS then atoms else []) by_ring
+own_atoms file goal none small =
+    ap (λ uses. let atoms = table file goal.equation uses in
+    if nat_le (length atoms) MAX_ATOMS then atoms else []) none
     ∙ few (own_table file goal.equation) small
 
 -- what is within the range is printed as an integer
@@ -58,25 +60,59 @@ both_handed : (P : ℤ → ℤ → Type 0) (left right : ℤ) → unsigned_abs l
 both_handed P left right l r h =
     subst (λ n. P n (handed right)) (sym (same_handed left l)) (subst (P left) (sym (same_handed right r)) h)
 
--- the answer no can be printed
-pub no_is_printable : NoIsOverTheTable → NoIsWithinRange → (file : File) (goal : Goal) (at : Monomial) (left right : ℤ) →
-    IsEquation file goal.equation → goal.method ≡ ByRing → IsMono nat_cmp at →
-    IsRingVerdict file goal.equation (RingVerdict.No at left right) →
-    IsPrintable file goal (No at (handed left) (handed right))
-no_is_printable over within file goal at left right is by_ring mono verdict =
-    let numbers = within file goal.equation at left right is verdict in
-    let Has : Method → Type 0 = λ method. HasForm method (No at left right) in
-    let Prints : ℤ → ℤ → Type 0 = λ l r. IsPrintable file goal (No at l r) in
-    both_handed Prints left right numbers.0 numbers.1 record {
-      form = subst Has (sym by_ring) tt;
-      parts = (
-        record {
-          canonical = mono;
-          over =
-              subst (λ atoms. IsOverAtoms atoms at) (sym (atoms_by_ring file goal by_ring verdict.0.0))
-              (each_over (own_table file goal.equation) at (over file goal.equation at left right verdict));
-        },
-        integer left numbers.0,
-        integer right numbers.1,
-      );
-    }
+module _ (file : File) (goal : Goal) where
+  -- an answer no can be printed below a goal without uses that may have it
+  no_may : (at : Monomial) (left right : ℤ) → ((l r : ℤ) → HasForm goal.method (No at l r)) →
+      uses_of goal.method ≡ [] → IsMono nat_cmp at → length (own_table file goal.equation) ≤ MAX_ATOMS →
+      Each (λ k. k < length (own_table file goal.equation)) at → (unsigned_abs left ≤ MAX) × (unsigned_abs right ≤ MAX) →
+      IsPrintable file goal (No at (handed left) (handed right))
+  no_may at left right form none mono small over numbers =
+      let Prints : ℤ → ℤ → Type 0 = λ l r. IsPrintable file goal (No at l r) in
+      both_handed Prints left right numbers.0 numbers.1 record {
+        form = form left right;
+        parts = (
+          record {
+            canonical = mono;
+            over =
+                subst (λ atoms. IsOverAtoms atoms at) (sym (own_atoms file goal none small))
+                (each_over (own_table file goal.equation) at over);
+          },
+          integer left numbers.0,
+          integer right numbers.1,
+        );
+      }
+
+  -- a goal by ring
+  pub no_is_printable : NoIsOverTheTable → NoIsWithinRange → (at : Monomial) (left right : ℤ) →
+      IsEquation file goal.equation → goal.method ≡ ByRing → IsMono nat_cmp at →
+      IsRingVerdict file goal.equation (RingVerdict.No at left right) →
+      IsPrintable file goal (No at (handed left) (handed right))
+  no_is_printable over within at left right is by mono verdict =
+      no_may at left right (λ l r. subst (λ method. HasForm method (No at l r)) (sym by) tt) (ap uses_of by) mono
+      verdict.0.0 (over file goal.equation at left right verdict) (within file goal.equation at left right is verdict)
+
+  -- a goal by field
+  pub field_no_is_printable : FieldNoIsOverTheTable → FieldNoIsWithinRange → (at : Monomial) (left right : ℤ) →
+      goal.method ≡ ByField → IsMono nat_cmp at →
+      IsFieldVerdict file goal.equation (FieldVerdict.No at left right) →
+      IsPrintable file goal (No at (handed left) (handed right))
+  field_no_is_printable over within at left right by mono verdict =
+      no_may at left right (λ l r. subst (λ method. HasForm method (No at l r)) (sym by) tt) (ap uses_of by) mono
+      verdict.0.0 (over file goal.equation at left right verdict) (within file goal.equation at left right verdict)
+
+  -- the conditions of a goal by field, and a denominator that is zero
+  pub conditions_are_printable : FieldTermsMayStand → IsGoal file goal → goal.method ≡ ByField →
+      (conditions : List Term) → IsFieldVerdict file goal.equation (FieldVerdict.Proved conditions) →
+      IsPrintable file goal (Proved conditions)
+  conditions_are_printable stand is by conditions verdict = record {
+    form = subst (λ method. HasForm method (Proved conditions)) (sym by) tt;
+    parts = stand.conditions file goal conditions is by verdict;
+  }
+
+  pub denominator_is_printable : FieldTermsMayStand → IsGoal file goal → goal.method ≡ ByField →
+      (t : Term) → IsFieldVerdict file goal.equation (FieldVerdict.ZeroDenominator t) →
+      IsPrintable file goal (ZeroDenominator t)
+  denominator_is_printable stand is by t verdict = record {
+    form = subst (λ method. HasForm method (ZeroDenominator t)) (sym by) tt;
+    parts = stand.denominator file goal t is by verdict;
+  }

@@ -15,31 +15,35 @@ use Rattle.alg_terms.specs.Members.{goal_at}
 use Rattle.alg_universe.specs.declared.universe.Universe.{Ghosts}
 use Rattle.alg_universe.specs.Right.{IsRight}
 use Rattle.alg_reify.specs.RingVerdict.{RingVerdict, IsRingVerdict, SidesDiffer}
+use Rattle.alg_reify.specs.FieldLaws.{OneFieldVerdict}
+use Rattle.alg_reify.specs.FieldVerdict.{FieldVerdict, IsFieldVerdict}
 use Rattle.alg_reify.specs.Laws as reify
+use Rattle.alg_field.specs.Laws as field
 use Rattle.alg_ring.specs.Laws as ring
-use Rattle.alg_prover.specs.Answers.{answer_of, IsAnswerBy, IsAnswer}
+use Rattle.alg_prover.specs.Answers.{answer_of, field_answer_of, IsAnswerBy, IsAnswer}
 use Rattle.alg_prover.specs.Laws.{OneAnswer, ProvedIsRight, CertifiedIsRight, NoDiffers}
 
-one_by : reify.OneRingVerdict → (file : File) (e : Equation) (method : Method) (a b : Answer) →
+one_by : reify.OneRingVerdict → OneFieldVerdict → (file : File) (e : Equation) (method : Method) (a b : Answer) →
     IsAnswerBy file e method a → IsAnswerBy file e method b → a ≡ b
-one_by law file e ByRing a b (v, h, p) (w, k, q) = p ∙ ap answer_of (law file e v w h k) ∙ sym q
-one_by law file e ByField a b h k = absurd h
-one_by law file e (ByNsatz uses power limit) a b h k = absurd h
+one_by ring_law field_law file e ByRing a b (v, h, p) (w, k, q) = p ∙ ap answer_of (ring_law file e v w h k) ∙ sym q
+one_by ring_law field_law file e ByField a b (v, h, p) (w, k, q) =
+    p ∙ ap field_answer_of (field_law file e v w h k) ∙ sym q
+one_by ring_law field_law file e (ByNsatz uses power limit) a b h k = absurd h
 
-one_each : reify.OneRingVerdict → (file : File) (goals : List Goal) (one other : List Answer) →
+one_each : reify.OneRingVerdict → OneFieldVerdict → (file : File) (goals : List Goal) (one other : List Answer) →
     AllZip (IsAnswer file) goals one → AllZip (IsAnswer file) goals other → one ≡ other
-one_each law file [] [] [] h k = refl
-one_each law file [] [] (b ∷ other) h k = absurd k
-one_each law file [] (a ∷ one) other h k = absurd h
-one_each law file (goal ∷ goals) [] other h k = absurd h
-one_each law file (goal ∷ goals) (a ∷ one) [] h k = absurd k
-one_each law file (goal ∷ goals) (a ∷ one) (b ∷ other) h k =
-    ap (λ x. x ∷ one) (one_by law file goal.equation goal.method a b h.0 k.0)
-    ∙ ap (λ xs. b ∷ xs) (one_each law file goals one other h.1 k.1)
+one_each ring_law field_law file [] [] [] h k = refl
+one_each ring_law field_law file [] [] (b ∷ other) h k = absurd k
+one_each ring_law field_law file [] (a ∷ one) other h k = absurd h
+one_each ring_law field_law file (goal ∷ goals) [] other h k = absurd h
+one_each ring_law field_law file (goal ∷ goals) (a ∷ one) [] h k = absurd k
+one_each ring_law field_law file (goal ∷ goals) (a ∷ one) (b ∷ other) h k =
+    ap (λ x. x ∷ one) (one_by ring_law field_law file goal.equation goal.method a b h.0 k.0)
+    ∙ ap (λ xs. b ∷ xs) (one_each ring_law field_law file goals one other h.1 k.1)
 
 -- the answers to the goals of a file are determined
-pub one_answer : reify.OneRingVerdict → OneAnswer
-one_answer law file one other h k = one_each law file file.goals one other h k
+pub one_answer : reify.OneRingVerdict → OneFieldVerdict → OneAnswer
+one_answer ring_law field_law file one other h k = one_each ring_law field_law file file.goals one other h k
 
 -- an answer proved is that of the verdict proved, without conditions
 proved_only : (file : File) (e : Equation) (conditions : List Term) (v : RingVerdict) → IsRingVerdict file e v →
@@ -50,19 +54,35 @@ proved_only file e conditions RingVerdict.Degree h same = absurd (cc)
 proved_only file e conditions RingVerdict.Proved h same = (cc, h)
 proved_only file e conditions (RingVerdict.No m a b) h same = absurd (cc)
 
+-- and by field that of the verdict proved with its conditions
+proved_under : (file : File) (e : Equation) (conditions : List Term) (v : FieldVerdict) → IsFieldVerdict file e v →
+    Proved conditions ≡ field_answer_of v → IsFieldVerdict file e (FieldVerdict.Proved conditions)
+proved_under file e conditions FieldVerdict.Atoms h same = absurd (cc)
+proved_under file e conditions FieldVerdict.Range h same = absurd (cc)
+proved_under file e conditions FieldVerdict.Degree h same = absurd (cc)
+proved_under file e conditions (FieldVerdict.ZeroDenominator t) h same = absurd (cc)
+proved_under file e conditions (FieldVerdict.Proved terms) h same =
+    let verdict : FieldVerdict.Proved terms ≡ FieldVerdict.Proved conditions = cc in
+    subst (IsFieldVerdict file e) verdict h
+proved_under file e conditions (FieldVerdict.No m a b) h same = absurd (cc)
+
 proved_by : {E : Type 0} (u : Ghosts E) → ((method : Method) (file : File) (i : ℕ) (conditions : List Term) →
     (method ≡ ByRing → IsRingVerdict file (goal_at file i).equation RingVerdict.Proved → IsRight u file i [] []) →
+    (method ≡ ByField → IsFieldVerdict file (goal_at file i).equation (FieldVerdict.Proved conditions) →
+    IsRight u file i conditions []) →
     IsAnswerBy file (goal_at file i).equation method (Proved conditions) → IsRight u file i conditions [])
-proved_by u ByRing file i conditions right (v, h, same) =
+proved_by u ByRing file i conditions right under (v, h, same) =
     let (none, proved) = proved_only file (goal_at file i).equation conditions v h same in
     subst (λ cs. IsRight u file i cs []) (sym none) (right refl proved)
-proved_by u ByField file i conditions right h = absurd h
-proved_by u (ByNsatz uses power limit) file i conditions right h = absurd h
+proved_by u ByField file i conditions right under (v, h, same) =
+    under refl (proved_under file (goal_at file i).equation conditions v h same)
+proved_by u (ByNsatz uses power limit) file i conditions right under h = absurd h
 
 -- a goal that is answered proved is right
-pub proved_is_right : {E : Type 0} (u : Ghosts E) → ring.ProvedIsRight u → ProvedIsRight u
-proved_is_right u law file i conditions valid low h =
-    proved_by u (goal_at file i).method file i conditions (λ by_ring proved. law file i valid low by_ring proved) h
+pub proved_is_right : {E : Type 0} (u : Ghosts E) → ring.ProvedIsRight u → field.ProvedIsRight u → ProvedIsRight u
+proved_is_right u ring_law field_law file i conditions valid low h =
+    proved_by u (goal_at file i).method file i conditions (λ by proved. ring_law file i valid low by proved)
+    (λ by proved. field_law file i conditions valid low by proved) h
 
 never_certified : (constants : List ℤ) (cert : Cert) (v : RingVerdict) → Certified constants cert ≡ answer_of v → ⊥
 never_certified constants cert RingVerdict.Atoms same = cc
@@ -71,11 +91,19 @@ never_certified constants cert RingVerdict.Degree same = cc
 never_certified constants cert RingVerdict.Proved same = cc
 never_certified constants cert (RingVerdict.No m a b) same = cc
 
+never_by_field : (constants : List ℤ) (cert : Cert) (v : FieldVerdict) → Certified constants cert ≡ field_answer_of v → ⊥
+never_by_field constants cert FieldVerdict.Atoms same = cc
+never_by_field constants cert FieldVerdict.Range same = cc
+never_by_field constants cert FieldVerdict.Degree same = cc
+never_by_field constants cert (FieldVerdict.ZeroDenominator t) same = cc
+never_by_field constants cert (FieldVerdict.Proved conditions) same = cc
+never_by_field constants cert (FieldVerdict.No m a b) same = cc
+
 certified_by : {E : Type 0} (u : Ghosts E) →
     ((method : Method) (file : File) (i : ℕ) (constants : List ℤ) (cert : Cert) →
     IsAnswerBy file (goal_at file i).equation method (Certified constants cert) → IsRight u file i [] constants)
 certified_by u ByRing file i constants cert (v, h, same) = absurd (never_certified constants cert v same)
-certified_by u ByField file i constants cert h = absurd h
+certified_by u ByField file i constants cert (v, h, same) = absurd (never_by_field constants cert v same)
 certified_by u (ByNsatz uses power limit) file i constants cert h = absurd h
 
 -- a goal that is answered by a certificate is right
@@ -98,7 +126,7 @@ no_by : reify.NoDiffers → (method : Method) (file : File) (i : ℕ) (at : Mono
     SidesDiffer file (goal_at file i).equation at left right
 no_by law ByRing file i at left right by_ring (v, h, same) =
     let e = (goal_at file i).equation in law file e at left right (no_only file e at left right v h same)
-no_by law ByField file i at left right by_ring h = absurd h
+no_by law ByField file i at left right by_ring h = absurd (cc)
 no_by law (ByNsatz uses power limit) file i at left right by_ring h = absurd h
 
 -- a goal that is answered no has different sides

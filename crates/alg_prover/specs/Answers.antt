@@ -7,7 +7,9 @@ use Rattle.alg_terms.specs.declared.goals.Goal.{Goal}
 use Rattle.alg_terms.specs.declared.goals.Method.{Method}
 use Rattle.alg_terms.specs.declared.goals.Method.TheVariants.{ByRing, ByField, ByNsatz}
 use Rattle.alg_lines.specs.declared.answer.Answer.{Answer}
-use Rattle.alg_lines.specs.declared.answer.Answer.TheVariants.{Proved, No, Atoms, Range, Degree}
+use Rattle.alg_lines.specs.declared.answer.Answer.TheVariants.{Proved, No, ZeroDenominator, Atoms, Range, Degree}
+use Rattle.alg_reify.specs.declared.stop.Stop.{Stop}
+use Rattle.alg_reify.specs.FieldVerdict.{FieldVerdict, IsFieldVerdict}
 use Rattle.alg_reify.specs.RingVerdict.{RingVerdict, IsRingVerdict}
 
 -- a verdict by ring as an answer: what is proved by ring is proved without conditions
@@ -18,15 +20,32 @@ answer_of RingVerdict.Degree = Degree
 answer_of RingVerdict.Proved = Proved []
 answer_of (RingVerdict.No at left right) = No at left right
 
--- the answer to an equation by a method; no goal by field or nsatz is answered yet
+-- a verdict by field as an answer
+abbrev pub field_answer_of : FieldVerdict → Answer
+field_answer_of FieldVerdict.Atoms = Atoms
+field_answer_of FieldVerdict.Range = Range
+field_answer_of FieldVerdict.Degree = Degree
+field_answer_of (FieldVerdict.ZeroDenominator t) = ZeroDenominator t
+field_answer_of (FieldVerdict.Proved conditions) = Proved conditions
+field_answer_of (FieldVerdict.No at left right) = No at left right
+
+-- the answer to an equation by a method; no goal by nsatz is answered yet
 abbrev pub IsAnswerBy : File → Equation → Method → Answer → Type 0
 IsAnswerBy file e ByRing answer = (verdict : RingVerdict) × IsRingVerdict file e verdict × (answer ≡ answer_of verdict)
-IsAnswerBy file e ByField answer = ⊥
+IsAnswerBy file e ByField answer =
+    (verdict : FieldVerdict) × IsFieldVerdict file e verdict × (answer ≡ field_answer_of verdict)
 IsAnswerBy file e (ByNsatz uses power limit) answer = ⊥
 
 -- the answer to a goal
 abbrev pub IsAnswer : File → Goal → Answer → Type 0
 IsAnswer file goal answer = IsAnswerBy file goal.equation goal.method answer
+
+-- a stop of the decision is the answer of its name; want of memory says nothing
+abbrev pub Stops : File → Goal → Stop → Type 0
+Stops file goal Stop.Atoms = IsAnswer file goal Atoms
+Stops file goal Stop.Range = IsAnswer file goal Range
+Stops file goal Stop.Degree = IsAnswer file goal Degree
+Stops file goal Stop.NoMemory = Unit {0}
 
 -- one answer for each goal of the file, in their order
 abbrev pub AreAnswers : File → List Answer → Type 0

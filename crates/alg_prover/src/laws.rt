@@ -9,6 +9,7 @@ pub fn one_answer()
     ensures { OneAnswer }
 {
     alg_reify::laws::one_ring_verdict();
+    alg_reify::laws::one_field_verdict();
 }
 
 /// A goal that is answered proved is right in every universe, at all values at which its used
@@ -18,6 +19,7 @@ pub fn proved_is_right<U: Universe>()
     ensures certified { CertifiedIsRight U.Universe }
 {
     alg_ring::laws::proved_is_right::<U>();
+    alg_field::laws::proved_is_right::<U>();
 }
 
 /// The sides of a goal by ring that is answered no are different polynomials: at the monomial of the

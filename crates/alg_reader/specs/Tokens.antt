@@ -40,10 +40,9 @@ last_kind last (token ∷ tokens) = last_kind (Some token.kind) tokens
 abbrev pub Unread : Type 0
 Unread = Option TokenKind → Word → Bool
 
--- today these are `hyp` at the front, and `field` and `nsatz` directly after `by`
+-- today these are `hyp` at the front, and `nsatz` directly after `by`
 abbrev pub unread_today : Option TokenKind → Word → Bool
 unread_today None words.Hyp = true
-unread_today (Some (kinds.Word words.By)) words.Field = true
 unread_today (Some (kinds.Word words.By)) words.Nsatz = true
 unread_today last word = false
 

@@ -32,7 +32,6 @@ impl Place {
     {
         match (last, word) {
             (None, Word::Hyp) => true,
-            (Some(TokenKind::Word(Word::By)), Word::Field) => true,
             (Some(TokenKind::Word(Word::By)), Word::Nsatz) => true,
             _ => false,
         }

@@ -47,6 +47,8 @@ fn the_first_statement_or_fault(rt: HostRuntime) {
         ("hom f : R -> S.", Found::Read(0, 15)),
         ("var x y : R.", Found::Read(0, 12)),
         ("goal (x + y)^2 = -x*f(y) by ring.", Found::Read(0, 33)),
+        ("goal x/x = 1 by field.", Found::Read(0, 22)),
+        ("goal x = y by field using H.", Found::Fault(4, 20)),
         // no token begins here, and a numeral over the greatest
         ("goal x = $.", Found::Fault(2, 9)),
         ("goal x < y by ring.", Found::Fault(2, 7)),
@@ -78,7 +80,6 @@ fn the_first_statement_or_fault(rt: HostRuntime) {
         ("ring R # .", Found::Fault(5, 10)),
         // words that can't be read yet
         ("hyp H : x = y.", Found::Fault(20, 0)),
-        ("goal x = y by field.", Found::Fault(20, 14)),
         (
             "goal x = y by nsatz using f(H) power 2.",
             Found::Fault(20, 14),

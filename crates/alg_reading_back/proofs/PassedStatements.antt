@@ -9,10 +9,13 @@ use Rattle.alg_terms.specs.declared.file.Statement.{Statement}
 use Rattle.alg_terms.specs.declared.file.Statement.TheVariants as statement
 use Rattle.alg_terms.specs.declared.goals.Equation.{Equation}
 use Rattle.alg_terms.specs.declared.goals.Goal.{Goal}
-use Rattle.alg_terms.specs.declared.goals.Method.TheVariants.{ByRing}
+use Rattle.alg_terms.specs.declared.goals.Method.{Method}
+use Rattle.alg_terms.specs.declared.goals.Method.TheVariants.{ByRing, ByField, ByNsatz}
+use Rattle.alg_terms.specs.GoalRules.{IsRingOrField}
 use Rattle.alg_terms.specs.Members.{sort_of_var, sort_at, hom_at, goal_at, no_goal}
 use Rattle.alg_terms.specs.Order.{numbers_from}
 use Rattle.alg_tokens.specs.declared.token.Sign.TheVariants as signs
+use Rattle.alg_tokens.specs.declared.token.Word.{Word}
 use Rattle.alg_tokens.specs.declared.token.Word.TheVariants as words
 use Rattle.alg_tokens.specs.declared.token.TokenKind.{TokenKind}
 use Rattle.alg_tokens.specs.declared.token.TokenKind.TheVariants as kinds
@@ -166,19 +169,19 @@ goal_fronts first second middle r end last =
     ap (λ ps. first ∷ second ∷ ps) (sym (append_assoc (middle ++ r) end last)
     ∙ ap (λ ps. ps ++ last) (append_assoc middle r end))
 
--- goals by ring
-ring_passes : (file : File) → HasPlainNames file → (e : Equation) →
-    Passes None (goal_front file e ++ (word words.Ring ∷ dot))
-ring_passes file plain e =
+-- goals by a word that is passed behind `by`
+word_passes : (file : File) → HasPlainNames file → (e : Equation) (w : Word) →
+    Passes (Some (kinds.Word words.By)) (word w ∷ dot) → Passes None (goal_front file e ++ (word w ∷ dot))
+word_passes file plain e w passed =
     let l = (written file e.left).pieces in
     let r = (written file e.right).pieces in
     let equal = l ++ (space ∷ []) in
     let middle = equal ++ (sign signs.Equal ∷ space ∷ []) in
     let left = wordless_append equal (sign signs.Equal ∷ space ∷ [])
     (wordless_append l (space ∷ []) (term_wordless file plain e.left) (space_plain, tt)) (refl, (space_plain, tt)) in
-    let end_pieces = space ∷ word words.By ∷ space ∷ word words.Ring ∷ dot in
+    let end_pieces = space ∷ word words.By ∷ space ∷ word w ∷ dot in
     subst (Passes None) (goal_fronts (word words.Goal) space middle r (space ∷ word words.By ∷ space ∷ [])
-    (word words.Ring ∷ dot)) (
+    (word w ∷ dot)) (
       no_parens (codes "goal") refl,
       (λ d. refl),
       (
@@ -190,17 +193,26 @@ ring_passes file plain e =
               (
                 no_parens (codes "by") refl,
                 by_passes behind,
-                (space_plain, (no_parens (codes "ring") refl, (λ d. refl), dot_passes (Some (kinds.Word words.Ring)))),
+                (space_plain, passed),
               ),
             )),
       ),
     )
 
-goal_passes : (file : File) → HasPlainNames file → (goal : Goal) → goal.method ≡ ByRing →
+-- goals by ring and by field
+method_passes : (file : File) → HasPlainNames file → (e : Equation) (m : Method) → IsRingOrField m →
+    Passes None (goal_front file e ++ (method_pieces file m ++ dot))
+method_passes file plain e ByRing is =
+    word_passes file plain e words.Ring
+    (no_parens (codes "ring") refl, (λ d. refl), dot_passes (Some (kinds.Word words.Ring)))
+method_passes file plain e ByField is =
+    word_passes file plain e words.Field
+    (no_parens (codes "field") refl, (λ d. refl), dot_passes (Some (kinds.Word words.Field)))
+method_passes file plain e (ByNsatz uses power limit) is = absurd is
+
+goal_passes : (file : File) → HasPlainNames file → (goal : Goal) → IsRingOrField goal.method →
     Passes None (written_goal file goal).pieces
-goal_passes file plain goal by_ring =
-    subst (λ m. Passes None (goal_front file goal.equation ++ (method_pieces file m ++ dot))) (sym by_ring)
-    (ring_passes file plain goal.equation)
+goal_passes file plain goal is = method_passes file plain goal.equation goal.method is
 
 -- of each statement that can be read today
 pub statement_passes : (file : File) → HasPlainNames file → IsReadToday file → (s : Statement) →

@@ -4,7 +4,7 @@ use Rattle.alg_lines.specs.declared.answer.Answer.{Answer}
 use Rattle.alg_printer.specs.Text.{text_of, statement_text}
 use Rattle.alg_reader.specs.Tokens.{none_unread}
 use Rattle.alg_terms.specs.declared.file.File.{File}
-use Rattle.alg_terms.specs.declared.goals.Method.TheVariants.{ByRing}
+use Rattle.alg_terms.specs.GoalRules.{IsRingOrField}
 use Rattle.alg_terms.specs.Limits.{MAX_OPEN}
 use Rattle.alg_terms.specs.Valid.{IsValid}
 use Rattle.alg_typing.specs.Reading.{IsReadingOf, IsReadingWith}
@@ -35,10 +35,10 @@ unanswered file = map (λ goal. None) file.goals
 abbrev pub OpensFew : File → Type 0
 OpensFew file = All (λ s. most_open 0 (statement_text file (unanswered file) s) ≤ MAX_OPEN) file.order
 
--- each of its statements can be read today: it has no hypotheses, and its goals are by ring
+-- each of its statements can be read today: it has no hypotheses, and its goals are by ring or by field
 pub record IsReadToday (file : File) : Type 0 where
   pub hyps : file.hyps ≡ []
-  pub goals : All (λ goal. goal.method ≡ ByRing) file.goals
+  pub goals : All (λ goal. IsRingOrField goal.method) file.goals
 
 -- ---- the law
 

@@ -23,7 +23,7 @@ module _ {B : Type 0} {none : B} {plus : B → B → B} (S : IsSum none plus) wh
   many zero x = none
   many (suc n) x = plus x (many n x)
 
-  many-add : (x : B) (m n : ℕ) → many (m + n) x ≡ plus (many m x) (many n x)
+  pub many-add : (x : B) (m n : ℕ) → many (m + n) x ≡ plus (many m x) (many n x)
   many-add x zero n = ap (λ k. many k x) (none_more n) ∙ sym (S.idl (many n x))
     where
       none_more : (n : ℕ) → zero + n ≡ n
@@ -40,7 +40,7 @@ module _ {B : Type 0} {none : B} {plus : B → B → B} (S : IsSum none plus) wh
     measure [] = none
     measure (p ∷ ps) = plus (h p) (measure ps)
 
-    measure-append : (ps qs : List (PolyOver K)) → measure (ps ++ qs) ≡ plus (measure ps) (measure qs)
+    pub measure-append : (ps qs : List (PolyOver K)) → measure (ps ++ qs) ≡ plus (measure ps) (measure qs)
     measure-append [] qs = sym (S.idl (measure qs))
     measure-append (p ∷ ps) qs =
         ap (plus (h p)) (measure-append ps qs) ∙ sym (S.assoc (h p) (measure ps) (measure qs))
@@ -50,13 +50,13 @@ module _ {B : Type 0} {none : B} {plus : B → B → B} (S : IsSum none plus) wh
     measure-replicate (suc n) q = ap (plus (h q)) (measure-replicate n q)
 
     -- it is a sum over the entries of the map
-    measure-all : (m : FactorsOver K) → measure (all_factors m) ≡ total none plus (λ q e. many e (h q)) m
+    pub measure-all : (m : FactorsOver K) → measure (all_factors m) ≡ total none plus (λ q e. many e (h q)) m
     measure-all [] = refl
     measure-all (e ∷ m) =
         measure-append (replicate e.1 e.0) (all_factors m)
         ∙ (λ i. plus (measure-replicate e.1 e.0 i) (measure-all m i))
 
-    many_adds : IsAdditive exponents none plus (λ q e. many e (h q))
+    pub many_adds : IsAdditive exponents none plus (λ q e. many e (h q))
     many_adds = record { at_none = λ q. refl; at_plus = λ q a b. many-add (h q) a b }
 
   -- what each key keeps
@@ -77,13 +77,13 @@ module _ {B : Type 0} {none : B} {plus : B → B → B} (S : IsSum none plus) wh
       ∙ total-renamed f none plus (λ q e. many e (g q)) m ∙ cong_each f h g m is)
 
 -- ---- norms, degrees and zeros
-norm_sum : IsSum 1 ◌*◌
+pub norm_sum : IsSum 1 ◌*◌
 norm_sum = record { assoc = mul_assoc; comm = mul_comm; idl = λ n. one_times n }
   where
     one_times : (n : ℕ) → 1 * n ≡ n
     one_times n = omega arith
 
-either_sum : IsSum false ◌||◌
+pub either_sum : IsSum false ◌||◌
 either_sum = record { assoc = assoc; comm = comm; idl = λ b. refl }
   where
     assoc : (a b c : Bool) → (a || b) || c ≡ a || (b || c)
@@ -97,15 +97,15 @@ either_sum = record { assoc = assoc; comm = comm; idl = λ b. refl }
     comm false false = refl
 
 module _ {K : Type 0} where
-  norm_measure : (ps : List (PolyOver K)) → norm_product ps ≡ measure norm_sum (λ p. norm p) ps
+  pub norm_measure : (ps : List (PolyOver K)) → norm_product ps ≡ measure norm_sum (λ p. norm p) ps
   norm_measure [] = refl
   norm_measure (p ∷ ps) = ap (λ n. norm p * n) (norm_measure ps)
 
-  zero_measure : (ps : List (PolyOver K)) → has_zero ps ≡ measure either_sum (λ p. is_nothing p) ps
+  pub zero_measure : (ps : List (PolyOver K)) → has_zero ps ≡ measure either_sum (λ p. is_nothing p) ps
   zero_measure [] = refl
   zero_measure (p ∷ ps) = ap (λ b. is_nothing p || b) (zero_measure ps)
 
-  degree_measure : (ps : List (PolyOver K)) → sum_by poly_degree ps ≡ measure natural_sum (λ p. poly_degree p) ps
+  pub degree_measure : (ps : List (PolyOver K)) → sum_by poly_degree ps ≡ measure natural_sum (λ p. poly_degree p) ps
   degree_measure [] = refl
   degree_measure (p ∷ ps) =
       sum_by-cons (λ (q : PolyOver K). poly_degree q) p ps ∙ ap (λ n. poly_degree p + n) (degree_measure ps)

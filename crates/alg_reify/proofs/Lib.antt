@@ -1,6 +1,7 @@
 pub mod Along
 pub mod AtomsIn
 pub mod Coefficients
+pub mod Differences
 pub mod FactorMeasures
 pub mod FactorProducts
 pub mod Held
@@ -9,9 +10,16 @@ pub mod Insertions
 pub mod Leaves
 pub mod Likes
 pub mod Made
+pub mod MayStand
 pub mod NearSums
 pub mod NumberedFractions
-pub mod NumberedRules
+pub mod KeptFractions
+pub mod FractionsIn
+pub mod FieldRanges
+pub mod FieldTerms
+pub mod FieldVerdicts
+pub mod FractionsAlong
+pub mod FractionsUnder
 pub mod Numbering
 pub mod Once
 pub mod Parts

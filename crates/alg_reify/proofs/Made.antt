@@ -81,16 +81,16 @@ without_first [] = []
 without_first (f ∷ path) = path
 
 -- the atom without the outermost morphism
-below_first : Atom → Atom
+pub below_first : Atom → Atom
 below_first a = record { path = without_first a.path; var = a.var }
 
 -- what always holds holds of each key
-each_always : {K A : Type 0} (P : K → Type 0) → ((k : K) → P k) → (es : List (K × A)) → Each P es
+pub each_always : {K A : Type 0} (P : K → Type 0) → ((k : K) → P k) → (es : List (K × A)) → Each P es
 each_always P h [] = tt
 each_always P h (e ∷ es) = (h e.0, each_always P h es)
 
 -- a morphism that is put before the path can be taken away again
-comes_back : (f : ℕ) (a : Atom) → below_first (put_before f a) ≡ a
+pub comes_back : (f : ℕ) (a : Atom) → below_first (put_before f a) ≡ a
 unfolding below_first without_first
 comes_back f a = refl
 

@@ -1,9 +1,13 @@
 pub mod Table
 pub mod Adding
 pub mod Numbered
+pub mod KeptFractions
 pub mod NumberedFractions
+pub mod FractionsUnder
 pub mod Making
 pub mod RingVerdict
+pub mod FieldVerdict
+pub mod FieldLaws
 pub mod Stops
 pub mod Laws
 pub mod Tried

@@ -5,7 +5,11 @@ ghost use Rattle.std.specs.Prelude.{◌≡◌, ◌<◌, IfOk, length, pos};
 ghost use Rattle.alg_terms.specs.GoalRules.{IsEquation, DividesNowhere};
 ghost use Rattle.alg_reify.specs.Tried.{tried};
 
-use crate::laws::{no_differs, no_is_over_the_table, no_is_within_range, one_ring_verdict};
+use crate::laws::{
+    field_no_differs, field_no_is_over_the_table, field_no_is_within_range, field_terms_may_stand,
+    fractions_under_paths, no_differs, no_is_over_the_table, no_is_within_range, one_field_verdict,
+    one_ring_verdict, sides_by_numbers,
+};
 use crate::{Atoms, AtomsEnd, NoMemory, Overrun, Poly, atoms_of, reify};
 use alg_terms::{Atom, Equation, File, Hyp, Name, Seq, Term, Use, VarDecl};
 use sqlite_items::Boxed;
@@ -229,8 +233,15 @@ fn a_polynomial_is_made_within_the_limits(rt: HostRuntime) -> Result<(), Fail> {
 
 #[test]
 fn the_laws_are_called() {
+    fractions_under_paths();
     one_ring_verdict();
     no_differs();
     no_is_over_the_table();
     no_is_within_range();
+    sides_by_numbers();
+    one_field_verdict();
+    field_no_differs();
+    field_no_is_over_the_table();
+    field_no_is_within_range();
+    field_terms_may_stand();
 }

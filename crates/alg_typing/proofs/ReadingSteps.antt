@@ -5,7 +5,8 @@ use Rattle.std.proofs.lemmas.List.Elements.{All-append, All-cons, All-nil}
 use Rattle.alg_terms.specs.Limits.{MAX_TEXT}
 use Rattle.alg_terms.specs.declared.file.File.{File}
 use Rattle.alg_terms.specs.Valid.{IsValid}
-use Rattle.alg_terms.specs.declared.goals.Method.TheVariants.{ByRing}
+use Rattle.alg_terms.specs.declared.goals.Goal.{Goal}
+use Rattle.alg_terms.specs.GoalRules.{IsRingOrField}
 use Rattle.alg_tokens.specs.declared.token.Refusal.{Refusal}
 use Rattle.alg_tokens.specs.declared.token.TokenKind.TheVariants as kinds
 use Rattle.alg_tokens.specs.declared.token.Word.TheVariants as words
@@ -20,28 +21,32 @@ use Rattle.alg_reader.specs.declared.reading.Raw.{Raw}
 use Rattle.alg_reader.specs.Statements.{IsRead}
 use Rattle.alg_reader.specs.Tokens.{unread_today}
 use Rattle.alg_reader.specs.WellRead.{IsReadable, word_of}
-use Rattle.alg_typing.specs.Ends.{IsByRing, RefusesWith}
+use Rattle.alg_typing.specs.Ends.{RefusesWith}
 use Rattle.alg_typing.specs.Reading.{first_fault, GoesOnWith, ReadsFile, IsReadingOf, no_statements}
 use Rattle.alg_typing.specs.Resolved.{extended, method_of}
 
--- a method whose word can be read today is ring
-is_ring : (file : File) (text : List ℕ) (method : RawMethod) →
-    unread_today (Some (kinds.Word words.By)) (word_of method) ≡ false → method_of file text method ≡ ByRing
-is_ring file text methods.Ring read = refl
-is_ring file text methods.Field read = absurd (cc)
-is_ring file text (methods.Nsatz uses power limit) read = absurd (cc)
+-- the goal is by ring or by field
+abbrev pub IsBySides : Goal → Type 0
+IsBySides goal = IsRingOrField goal.method
 
--- with one more statement that can be read today all goals are by ring
-pub still_by_ring : (file : File) (text : List ℕ) (kind : RawKind) → All IsByRing file.goals →
-    IsReadable unread_today kind → All IsByRing (extended file text kind).goals
-still_by_ring file text raws.End all read = all
-still_by_ring file text (raws.Sort kind name char0) all read = all
-still_by_ring file text (raws.Hom name from to) all read = all
-still_by_ring file text (raws.Vars names sort) all read = all
-still_by_ring file text (raws.Hyp name e) all read = all
-still_by_ring file text (raws.Goal e method place) all read =
-    All-append IsByRing file.goals _ all
-    (All-cons IsByRing _ [] (is_ring file text method read) (All-nil IsByRing))
+-- so is each goal whose method's word can be read today
+read_method : (file : File) (text : List ℕ) (method : RawMethod) →
+    unread_today (Some (kinds.Word words.By)) (word_of method) ≡ false → IsRingOrField (method_of file text method)
+read_method file text methods.Ring read = tt
+read_method file text methods.Field read = tt
+read_method file text (methods.Nsatz uses power limit) read = absurd (cc)
+
+-- with one more statement that can be read today all goals are so
+pub still_by_sides : (file : File) (text : List ℕ) (kind : RawKind) → All IsBySides file.goals →
+    IsReadable unread_today kind → All IsBySides (extended file text kind).goals
+still_by_sides file text raws.End all read = all
+still_by_sides file text (raws.Sort kind name char0) all read = all
+still_by_sides file text (raws.Hom name from to) all read = all
+still_by_sides file text (raws.Vars names sort) all read = all
+still_by_sides file text (raws.Hyp name e) all read = all
+still_by_sides file text (raws.Goal e method place) all read =
+    All-append IsBySides file.goals _ all
+    (All-cons IsBySides _ [] (read_method file text method read) (All-nil IsBySides))
 
 module _ (text : List ℕ) (file : File) where
   -- what the rest of the text is read to be decides what all of it is

@@ -1,7 +1,4 @@
--- What an end without a file says, and goals by ring.
-use Rattle.alg_terms.specs.declared.goals.Goal.{Goal}
-use Rattle.std.specs.Prelude.{◌≡◌}
-use Rattle.alg_terms.specs.declared.goals.Method.TheVariants.{ByRing}
+-- What an end without a file says.
 use Rattle.alg_tokens.specs.declared.token.Refusal.{Refusal}
 use Rattle.alg_reader.specs.declared.reading.FileEnd.{FileEnd}
 use Rattle.alg_reader.specs.declared.reading.FileEnd.TheVariants.{Refused, NoMemory}
@@ -10,7 +7,3 @@ use Rattle.alg_reader.specs.declared.reading.FileEnd.TheVariants.{Refused, NoMem
 abbrev pub RefusesWith : FileEnd → (Refusal → Type 0) → Type 0
 RefusesWith (Refused fault) Holds = Holds fault
 RefusesWith NoMemory Holds = Unit {0}
-
--- the goal is to be decided by ring
-abbrev pub IsByRing : Goal → Type 0
-IsByRing goal = goal.method ≡ ByRing

@@ -1,5 +1,6 @@
 //! Files and first faults of texts.
 
+mod by_field;
 mod by_hand;
 mod readings;
 

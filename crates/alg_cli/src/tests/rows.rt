@@ -99,7 +99,7 @@ pub(super) struct Row {
     pub(super) status: Status,
 }
 
-pub(super) const ROWS: [Row; 15] = [
+pub(super) const ROWS: [Row; 14] = [
     Row {
         shows: "blanks, comments, zeros and needless parentheses are not kept",
         input: b"# a ring\nring R.var x\ty:R.\r\ngoal ((x)) - (y - 007) = -(x)by ring. # all",
@@ -182,12 +182,6 @@ pub(super) const ROWS: [Row; 15] = [
         shows: "hypotheses can't be read yet",
         input: b"ring R.\nvar x : R.\nhyp H : x = 0.\n",
         output: "refused 20 at 19\n",
-        status: Status::Refused,
-    },
-    Row {
-        shows: "goals by field can't be read yet",
-        input: b"field F.\nvar x : F.\ngoal x/x = 1 by field.\n",
-        output: "refused 20 at 36\n",
         status: Status::Refused,
     },
 ];

@@ -5,5 +5,5 @@ use Rattle.alg_prover.proofs.tests.each_goal_has_its_own_answer.Goals as goal
 pub answers-requires-clause-valid : goal.answers-requires-clause-valid
 answers-requires-clause-valid g c = is_valid c.in_ok-file.file c.in_ok-file.ensures
 
-pub answers-requires-clause-by_ring : goal.answers-requires-clause-by_ring
-answers-requires-clause-by_ring g c = are_by_ring c.in_ok-file.file c.in_ok-file.ensures
+pub answers-requires-clause-methods : goal.answers-requires-clause-methods
+answers-requires-clause-methods g c = are_by_ring c.in_ok-file.file c.in_ok-file.ensures

@@ -3,10 +3,9 @@ use Rattle.std.proofs.lemmas.List.Elements.{All-nil}
 use Rattle.std.proofs.lemmas.Str.{IsCharBoundary-start}
 use Rattle.alg_terms.specs.declared.file.File.{File}
 use Rattle.alg_reader.specs.Tokens.{unread_today}
-use Rattle.alg_typing.specs.Ends.{IsByRing}
 use Rattle.alg_typing.specs.Reading.{ReadsFile, no_statements}
 use Rattle.alg_typing.proofs.FirstFaults.{error_tells_nothing}
-use Rattle.alg_typing.proofs.ReadingSteps.{smaller, still_by_ring, decides_still, ends_here, told_reading, told_fault, passed_on}
+use Rattle.alg_typing.proofs.ReadingSteps.{IsBySides, smaller, still_by_sides, decides_still, ends_here, told_reading, told_fault, passed_on}
 use Rattle.alg_typing.proofs.RoomForStatements.{HasAtMost, none_at_first, has_room, still_few, goes_on}
 use Rattle.alg_typing.proofs.reading.read_declared.Goals as goal
 
@@ -17,7 +16,7 @@ statements-init c =
       decides = λ outcome reads. subst (λ (f : File). ReadsFile unread_today c.args.text.now 0 f outcome) is reads;
       boundary = IsCharBoundary-start c.args.text.now c.utf8.text;
       few = subst (λ (f : File). HasAtMost f 0) (sym is) none_at_first;
-      by_ring = subst (λ (f : File). All IsByRing f.goals) (sym is) (All-nil IsByRing);
+      methods = subst (λ (f : File). All IsBySides f.goals) (sym is) (All-nil IsBySides);
     }
 
 pub read_statement-requires-clause-size : goal.read_statement-requires-clause-size
@@ -36,8 +35,8 @@ returns-in_err-raw-clause-refused c =
     (told_reading c.args.text.now no_statements c.statements.at c.statements.declared _
     c.statements.invariant.decides c.in_err-raw.ensures.read)
 
-pub returns-in_err-raw-clause-by_ring : goal.returns-in_err-raw-clause-by_ring
-returns-in_err-raw-clause-by_ring c = error_tells_nothing _ _ c.from_residual.result c.from_residual.ensures.1
+pub returns-in_err-raw-clause-methods : goal.returns-in_err-raw-clause-methods
+returns-in_err-raw-clause-methods c = error_tells_nothing _ _ c.from_residual.result c.from_residual.ensures.1
 
 -- the text ends
 pub same-declared : goal.same-declared
@@ -48,8 +47,8 @@ returns-in-End-clause-ok c =
     ends_here c.args.text.now no_statements c.statements.at c.statements.declared c.in_ok-raw.raw
     c.statements.invariant.decides c.in_ok-raw.ensures.read c.in-End.is
 
-pub returns-in-End-clause-by_ring : goal.returns-in-End-clause-by_ring
-returns-in-End-clause-by_ring c = c.statements.invariant.by_ring
+pub returns-in-End-clause-methods : goal.returns-in-End-clause-methods
+returns-in-End-clause-methods c = c.statements.invariant.methods
 
 -- a statement is added
 pub same-declared-in-statements : goal.same-declared-in-statements
@@ -89,8 +88,8 @@ statements-preserved c =
           invariant.decides c.in_ok-raw.ensures.read c.in_default.not-End c.in_ok-add.ensures.ok.0 is;
       boundary = well.stops;
       few = more;
-      by_ring = subst (λ (f : File). All IsByRing f.goals) (sym is)
-          (still_by_ring c.statements.declared text raw.kind invariant.by_ring c.in_ok-raw.ensures.readable);
+      methods = subst (λ (f : File). All IsBySides f.goals) (sym is)
+          (still_by_sides c.statements.declared text raw.kind invariant.methods c.in_ok-raw.ensures.readable);
     }
 
 -- a statement has a fault, or there is no memory
@@ -100,5 +99,5 @@ returns-in_err-add c = record {
   refused = passed_on _ c.from_residual-in_err-add.result _ c.from_residual-in_err-add.ensures.1
       (told_fault c.args.text.now no_statements c.statements.at c.statements.declared c.in_ok-raw.raw _
       c.statements.invariant.decides c.in_ok-raw.ensures.read c.in_default.not-End c.in_err-add.ensures.refused);
-  by_ring = error_tells_nothing _ _ c.from_residual-in_err-add.result c.from_residual-in_err-add.ensures.1;
+  methods = error_tells_nothing _ _ c.from_residual-in_err-add.result c.from_residual-in_err-add.ensures.1;
 }

@@ -3,7 +3,7 @@ use Rattle.std.specs.Str.{IsCharBoundary}
 use Rattle.alg_terms.specs.declared.file.File.{File}
 use Rattle.alg_tokens.specs.declared.token.Refusal.{Refusal}
 use Rattle.alg_reader.specs.Tokens.{unread_today}
-use Rattle.alg_typing.specs.Ends.{IsByRing}
+use Rattle.alg_typing.proofs.ReadingSteps.{IsBySides}
 use Rattle.alg_typing.specs.Reading.{ReadsFile, no_statements}
 use Rattle.alg_typing.proofs.RoomForStatements.{HasAtMost}
 use Rattle.alg_typing.proofs.reading.read_declared.Given as goal
@@ -15,7 +15,7 @@ invariant-statements l = record {
       ReadsFile unread_today l.text 0 no_statements outcome;
   boundary : IsCharBoundary l.text l.at;
   few : HasAtMost l.declared l.at;
-  by_ring : All IsByRing l.declared.goals;
+  methods : All IsBySides l.declared.goals;
 }
 
 abbrev pub decreases-statements : goal.decreases-statements

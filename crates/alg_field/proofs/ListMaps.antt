@@ -1,0 +1,78 @@
+-- What lists of factors say of the maps that they are, and where a search comes to.
+use Rattle.std.specs.Prelude.{◌≡◌, ◌≢◌, Bool, ℕ, zero, suc, ◌+◌, ◌-◌, ◌*◌, ◌<◌, ◌≤◌, true, false, cond, not, List, [], ◌∷◌, ◌++◌, length, drop, slice_set}
+use Rattle.std.proofs.lemmas.Bool.Decides.{nat_tests}
+use Rattle.std.proofs.Common.{get_or, refl, sym, ap, subst, ◌∙◌, T, arith, append_assoc}
+use Rattle.std.specs.declared.cmp.Ordering.{Ordering}
+use Rattle.std.specs.Ordering.{is_eq, eq_by_cmp}
+use Rattle.std.specs.Cmp.{tied_itself}
+use Rattle.alg_mono.specs.FiniteMaps.{IsCanonical, Each, at_key, amount, keep, collect}
+use Rattle.alg_mono.specs.Numbers.{exponents}
+use Rattle.alg_mono.specs.NumberedPolynomials.{Polynomial}
+use Rattle.alg_mono.specs.Monomials.{mono_over, lowered}
+use Rattle.alg_mono.proofs.Numbers.{exponent_laws}
+use Rattle.alg_mono.proofs.Canonical.{same_canonical, amount-collect, IsCanonical-collect, equal}
+use Rattle.alg_mono.proofs.Lcm.{exponent-mono_over}
+use Rattle.alg_mono.proofs.Monomials.{exponent-mono_times}
+use Rattle.alg_mono.proofs.Merges.{keep_front}
+use Rattle.alg_mono.proofs.MergeTurns.{drop_at}
+use Rattle.alg_field.specs.Factors.{FactorMap, order, exponent_of, times_map, lacks}
+use Rattle.alg_field.specs.Lists.{map_of, IsList, IsFactor, MAX_POWER, put, put_all, beyond, place_of}
+use Rattle.alg_field.proofs.Order.{order_total, order_anti}
+
+-- a factor's exponent in the map is the sum of those in the list
+pub exponent-map_of : (q : Polynomial) (es : FactorMap) → exponent_of q (map_of es) ≡ exponent_of q es
+exponent-map_of q es = amount-collect exponent_laws order_total order_anti q es
+
+-- lists with the same exponents are one map
+pub same_map : (es : FactorMap) (m : FactorMap) → IsCanonical order exponents m →
+    ((q : Polynomial) → exponent_of q es ≡ exponent_of q m) → map_of es ≡ m
+same_map es m c same =
+    same_canonical exponent_laws order_total order_anti (map_of es) m
+    (IsCanonical-collect exponent_laws order_total order_anti es) c (λ q. exponent-map_of q es ∙ same q)
+
+pub itself : (q : Polynomial) → eq_by_cmp order q q ≡ true
+itself q = ap is_eq (tied_itself order_total q)
+
+-- ---- a search
+pub IsList-drop : (es : FactorMap) (i : ℕ) → IsList es → IsList (drop i es)
+IsList-drop es zero h = h
+IsList-drop [] (suc i) h = h
+IsList-drop (e ∷ es) (suc i) h = IsList-drop es i h.3
+
+-- a factor of a list is one
+pub factor_at : (es : FactorMap) (i : ℕ) (x d : Polynomial × ℕ) → i < length es → x ≡ get_or es i d → IsList es →
+    IsFactor x.0
+factor_at es i x d h e list =
+    let parts : IsList (x ∷ drop (i + 1) es) = subst IsList (drop_at es i x d h e) (IsList-drop es i list) in parts.2
+
+-- the factor that was looked for
+pub exponent_found : (q : Polynomial) (es : FactorMap) (i : ℕ) (x d : Polynomial × ℕ) → i < length es →
+    x ≡ get_or es i d → IsList es → x.0 ≡ q → x.1 ≡ exponent_of q (drop i es)
+exponent_found q es i x d h e list is =
+    let rest = drop (i + 1) es in
+    let from : drop i es ≡ x ∷ rest = drop_at es i x d h e in
+    let apart : IsList (x ∷ rest) = subst IsList from (IsList-drop es i list) in
+    let none : exponent_of q rest ≡ 0 = subst (λ p. exponent_of p rest ≡ 0) is apart.0 in
+    let here : eq_by_cmp order q x.0 ≡ true = subst (λ p. eq_by_cmp order q p ≡ true) (sym is) (itself q) in
+    added x.1 _ none ∙ sym (ap (λ t. cond t x.1 0 + exponent_of q rest) here) ∙ ap (exponent_of q) (sym from)
+  where
+    added : (n m : ℕ) → m ≡ 0 → n ≡ n + m
+    added n m z = omega arith
+
+-- another factor
+pub differs : (q p : Polynomial) → p ≢ q → eq_by_cmp order q p ≡ false
+differs q p no' =
+    elim (eq_by_cmp order q p) as (λ b. eq_by_cmp order q p ≡ b → b ≡ false) [
+      | true ↦ λ e. absurd (no' (sym (order_anti q p (equal _ (subst T (sym e) tt)))))
+      | false ↦ λ e. refl
+    ] refl
+
+pub exponent_turn : (q : Polynomial) (es : FactorMap) (i : ℕ) (x d : Polynomial × ℕ) → i < length es →
+    x ≡ get_or es i d → x.0 ≢ q → exponent_of q (drop (i + 1) es) ≡ exponent_of q (drop i es)
+exponent_turn q es i x d h e other =
+    let rest = drop (i + 1) es in
+    sym (ap (exponent_of q) (drop_at es i x d h e) ∙ ap (λ t. cond t x.1 0 + exponent_of q rest) (differs q x.0 other)
+    ∙ nothing_added (exponent_of q rest))
+  where
+    nothing_added : (m : ℕ) → 0 + m ≡ m
+    nothing_added m = omega arith

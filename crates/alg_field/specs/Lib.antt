@@ -1,0 +1,4 @@
+pub mod Factors
+pub mod Lists
+pub mod Rules
+pub mod Laws

@@ -1,0 +1,10 @@
+//! Goals by field: whether the cleared numerators of the two sides of an equation are one polynomial,
+//! and under which conditions.
+#![tactic(auto)]
+
+mod bounds;
+pub mod laws;
+mod lists;
+
+pub use alg_horner::HornerPoly;
+pub use alg_reify::{Mono, NoMemory, Stop};
