@@ -105,10 +105,7 @@ fn decide_by_field(alloc: Global, file: &File, goal: &Goal) -> Result<Answer, St
         numerators: _numerators,
     } = decide_field(alloc, file, &goal.equation)?;
     match answer {
-        FieldAnswer::Proved { conditions } => {
-            let conditions = Seq::from_vec(conditions);
-            Ok(Answer::Proved { conditions })
-        }
+        FieldAnswer::Proved { conditions } => Ok(Answer::Proved { conditions }),
         FieldAnswer::No { at, left, right } => {
             // Its contract says that the monomial is canonical.
             at.pairs();

@@ -1,7 +1,4 @@
-use Rattle.std.proofs.Common.{◌≡◌, List, sym, subst}
-use Rattle.alg_terms.specs.declared.term.Term.{Term}
-use Rattle.alg_lines.specs.declared.answer.Answer.TheVariants.{Proved}
-use Rattle.alg_printer.specs.Printable.{IsPrintable}
+use Rattle.std.proofs.Common.{◌≡◌, subst}
 use Rattle.alg_reify.specs.FieldVerdict.{IsFieldVerdict}
 use Rattle.alg_field.specs.declared.decide.FieldAnswer.{FieldAnswer}
 use Rattle.alg_field.specs.Answers.{verdict_of}
@@ -15,10 +12,8 @@ returns-in-Proved-clause-printable c =
     let goal = c.args.goal.now in
     let Told : FieldAnswer → Type 0 = λ answer. IsFieldVerdict file goal.equation (verdict_of answer) in
     let is : c.in_ok-answer.field-0.answer ≡ FieldAnswer.Proved c.in-Proved.conditions = c.in-Proved.is in
-    let Prints : List Term → Type 0 = λ terms. IsPrintable file goal (Proved terms) in
-    subst Prints (sym c.from_vec-conditions.ensures)
-    (conditions_are_printable file goal c.field_terms_may_stand.ensures c.requires.goal c.requires.by_field
-    c.in-Proved.conditions.items (subst Told is c.in_ok-answer.ensures.answer))
+    conditions_are_printable file goal c.field_terms_may_stand.ensures c.requires.goal c.requires.by_field
+    c.in-Proved.conditions (subst Told is c.in_ok-answer.ensures.answer)
 
 -- the answer no has a monomial over the goal's table and coefficients within the range
 pub returns-in-No-clause-printable : goal.returns-in-No-clause-printable
