@@ -22,9 +22,13 @@ def names(count):
     return [f"x{i}" for i in range(1, count + 1)]
 
 
-def file_of(variables, goals, head="ring R.\n"):
+def file_of(variables, goals, head="ring R.\n", method="ring"):
     declared = f"var {' '.join(variables)} : R.\n"
-    return head + declared + "".join(f"goal {goal} by ring.\n" for goal in goals)
+    return head + declared + "".join(f"goal {goal} by {method}.\n" for goal in goals)
+
+
+def field_file(variables, goals):
+    return file_of(variables, goals, "field R.\n", "field")
 
 
 def power(count, n):
@@ -61,6 +65,33 @@ def under_paths(depth):
     return file_of(names(2), [f"{image} = {pushed[0]}*{pushed[1]} + 1"], head)
 
 
+def continued_fraction(depth):
+    """x1 + 1/(x2 + 1/(..)) against its quotient of continuants."""
+    nested = f"x{depth}"
+    above, below = nested, "1"
+    for k in range(depth - 1, 0, -1):
+        nested = f"x{k} + 1/({nested})"
+        above, below = f"x{k}*({above}) + {below}", above
+    return field_file(names(depth), [f"{nested} = ({above})/({below})"])
+
+
+def telescope(terms):
+    """1/x(x + 1) + 1/(x + 1)(x + 2) + .., which is the first less the last."""
+    total = " + ".join(f"1/((x1 + {k})*(x1 + {k + 1}))" for k in range(terms))
+    return field_file(names(1), [f"{total} = 1/(x1 + 0) - 1/(x1 + {terms})"])
+
+
+def inverses(count):
+    """A sum of inverses of many unknowns, both ways round."""
+    parts = [f"1/({x} + {k})" for k, x in enumerate(names(count), 1)]
+    return field_file(names(count), [" + ".join(parts) + " = " + " + ".join(reversed(parts))])
+
+
+def small_field_goals(count):
+    goals = [f"1/(x1 + {k}) + x2/(x1 + {k}) = (1 + x2)/(x1 + {k})" for k in range(count)]
+    return field_file(names(2), goals)
+
+
 def run(program, text):
     before = resource.getrusage(resource.RUSAGE_CHILDREN).ru_maxrss
     start = time.monotonic()
@@ -90,6 +121,10 @@ def main():
     ]
     rows += [(f"(x1 + .. + x5)^{n}, two ways", power(5, n)) for n in (6, 12, 18, 24)]
     rows += [(f"product of {count} unknowns, both ways round", product(count)) for count in (8, 10, 12, 14, 16)]
+    rows += [(f"continued fraction of depth {depth}", continued_fraction(depth)) for depth in (4, 8, 12, 16)]
+    rows += [(f"telescope of {terms} quotients", telescope(terms)) for terms in (8, 16, 32)]
+    rows += [(f"sum of {count} inverses, both ways round", inverses(count)) for count in (6, 10, 12)]
+    rows.append(("1,000 small goals by field", small_field_goals(1_000)))
     print(f"{'what':44} {'bytes':>8} {'status':>9} {'seconds':>8} {'peak MB':>8}")
     for what, text in rows:
         if given.word not in what:

@@ -52,9 +52,27 @@ def files_with_answers():
     yield answered(R + "var α : R.\ngoal α + α = 2*α by ring.\n", "proved", 0)
     many = f"var {' '.join(NAMES)} : R.\ngoal {unwrapped(NAMES)} = 0 by ring.\n"
     yield answered(R + many, "atoms", 1)
-    yield refused(F + Y + "goal x/x = 1 by field.\n", 20, 38)
+    yield from files_by_field()
     yield refused(R + X + "goal x = 0 by nsatz.\n", 20, 33)
     yield refused(R + V + "hyp H : x = y.\n", 20, 21)
+
+
+def files_by_field():
+    """Goals by field, with their conditions, and where they may not stand."""
+    char0 = "field F char 0.\n" + Y
+    yield answered(F + Y + "goal x/x = 1 by field.\n", "proved if x <> 0", 0)
+    conditions = "x <> 0, y <> 0, x*y <> 0"
+    yield answered(F + Y + "goal 1/x + 1/y = (x + y)/(x*y) by field.\n", f"proved if {conditions}", 0)
+    yield answered(F + Y + "goal 1/(x - x) = 0 by field.\n", "zero denominator x - x", 1)
+    under = F + "field K.\nhom f : F -> K.\n" + Y + "goal f(1/x) = 1/f(x) by field.\n"
+    yield answered(under, "proved if x <> 0, f(x) <> 0", 0)
+    yield answered(F + Y + "goal x/2 + x/2 = x by field.\n", "proved if 2 <> 0", 0)
+    yield answered(char0 + "goal x/2 + x/2 = x by field.\n", "proved", 0)
+    yield answered(F + Y + "goal 1/x = 1/(x + 1) by field.\n", "no at 1 : 1 and 0", 1)
+    yield answered(F + Y + "goal 0/0 = 0 by field.\n".replace("= 0", "= x"), "zero denominator 0", 1)
+    yield answered(F + Y + "goal x^0/x^0 = 1 by field.\n", "proved", 0)
+    yield answered(F + Y + "goal 1/(x - x)^0 = 1 by field.\n", "proved", 0)
+    yield refused(R + X + "goal x = x by field.\n", 15, 33)
 
 
 def unwrapped(names):

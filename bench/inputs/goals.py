@@ -54,11 +54,23 @@ def sides(scope, sort):
     return long_sum(scope, sort), long_image(scope, sort)
 
 
+def method_and_sort(scope):
+    """A method, and a sort that a variable has; mostly a field for goals by field."""
+    rng = scope.rng
+    sorts = [sort for _, sort in scope.variables]
+    fields = [sort for sort in sorts if sort in scope.fields]
+    if rng.random() < (0.6 if fields else 0.05):
+        return "field", rng.choice(fields if fields and rng.random() < 0.95 else sorts)
+    return "ring", rng.choice(sorts)
+
+
 def goal(scope):
     rng = scope.rng
     if rng.random() < 0.08:
         return ["goal", *loose_tokens(scope), "=", *loose_tokens(scope), "by", "ring", "."]
-    left, right = sides(scope, rng.choice([sort for _, sort in scope.variables]))
+    method, sort = method_and_sort(scope)
+    scope.divides = method == "field"
+    left, right = sides(scope, sort)
     if rng.random() < 0.1:
         left, right = right, left
     for _ in range(rng.choice([0, 0, 0, 0, 1, 2])):
@@ -66,7 +78,7 @@ def goal(scope):
         right = spoilt(scope, right) if rng.random() < 0.5 else right
     extra = rng.choice([0, 0, 0.1])
     left, right = tokens_of(rng, left, 1, extra), tokens_of(rng, right, 1, extra)
-    return ["goal", *left, "=", *right, "by", "ring", "."]
+    return ["goal", *left, "=", *right, "by", method, "."]
 
 
 def statements(rng):

@@ -18,9 +18,13 @@ OTHER_NAMES = (
 
 
 class Scope:
+    """What a generated file declares so far. Terms have quotients where `divides` is set."""
+
     def __init__(self, rng):
         self.rng = rng
         self.sorts = []
+        self.fields = []
+        self.divides = False
         self.homs = []
         self.variables = []
         self.names = set(WORDS)
@@ -39,6 +43,8 @@ class Scope:
         name = self.new_name()
         kind = self.rng.choice(["ring", "domain", "field"])
         self.sorts.append(name)
+        if kind == "field":
+            self.fields.append(name)
         has_char = kind != "ring" and self.rng.random() < 0.4
         char = ["char", self.rng.choice(["0", "00"])] if has_char else []
         return [kind, name, *char, "."]

@@ -26,7 +26,8 @@ def term(scope, sort, size):
     rng = scope.rng
     if size <= 1:
         return scope.leaf(sort)
-    op = rng.choice("+ + - - * * neg ^ hom hom".split())
+    quotients = " / / /" if scope.divides else ""
+    op = rng.choice(f"+ + - - * * neg ^ hom hom{quotients}".split())
     if op == "hom":
         fitting = [hom for hom in scope.homs if hom[2] == sort]
         if not fitting:
@@ -55,9 +56,11 @@ def rewritten(rng, t):
         return (made[0], made[2], made[1])
     if made[0] == "-" and chance < 0.5:
         return ("+", ("neg", made[2]), made[1])
-    if made[0] == "*" and made[1][0] in ("+", "-") and chance < 0.9:
+    if made[0] in ("*", "/") and made[1][0] in ("+", "-") and chance < 0.9:
         inner, a, b = made[1]
-        return (inner, ("*", a, made[2]), ("*", b, made[2]))
+        return (inner, (made[0], a, made[2]), (made[0], b, made[2]))
+    if made[0] == "/" and chance < 0.5:
+        return ("*", made[1], ("/", ("int", "1"), made[2]))
     return made
 
 
@@ -79,7 +82,7 @@ def pushed(rng, t):
         return part if rng.random() < 0.5 else t
     if part[0] == "^":
         return ("^", pushed(rng, ("hom", name, part[1])), part[2])
-    if part[0] in ("+", "-", "*", "neg"):
+    if part[0] in ("+", "-", "*", "/", "neg"):
         return (part[0], *(pushed(rng, ("hom", name, p)) for p in part[1:]))
     return t
 
@@ -131,10 +134,26 @@ def edge_zero(rng, x, y):
     return rng.choice(products + powers)
 
 
+def edge_quotient(rng, x, y):
+    """A quotient, a power or a sum of such whose factors are at a limit, or that is over zero."""
+    n = rng.choice([1, 2, 3, 126, 127, 499, 500, 501, 999, 1000, rng.randint(1, 1000)])
+    base = rng.choice([x, ("*", ("int", str(root(n) + rng.randint(0, 1))), x), ("int", "2"), ("+", x, y)])
+    zero = rng.choice([("int", "0"), ("-", x, x), ("^", ("-", x, x), "1")])
+    one = rng.choice([("int", "1"), ("neg", ("int", "1")), ("^", x, "0"), ("-", ("+", x, ("int", "1")), x)])
+    under = rng.choice([("^", base, str(n)), ("^", base, str(n)), zero, one, ("/", x, base)])
+    made = ("/", rng.choice([x, ("int", "1"), zero, one]), under)
+    if rng.random() < 0.3:
+        made = ("^", made, str(rng.choice([0, 1, 2, 1000 // n, 1000 // n + 1])))
+    if rng.random() < 0.3:
+        made = (rng.choice("+-*/"), made, ("/", y, rng.choice([under, base, y])))
+    return made
+
+
 def edge_term(scope, sort):
     rng = scope.rng
     x, y = scope.leaf(sort), scope.leaf(sort)
-    make = rng.choice([edge_power, edge_product, edge_sum, edge_zero])
+    quotients = [edge_quotient] * 4 if scope.divides else []
+    make = rng.choice([edge_power, edge_product, edge_sum, edge_zero, *quotients])
     made = make(rng, x) if make is edge_power else make(rng, x, y)
     chance = rng.random()
     if chance < 0.2:

@@ -8,6 +8,7 @@ from second.faults import (
     DIVISION,
     EXPONENT,
     NO_SORT,
+    NOT_FIELD,
     SORTS_DIFFER,
     UNKNOWN,
     UTF8,
@@ -15,7 +16,7 @@ from second.faults import (
     Refused,
 )
 from second.statements import GoalStatement, HomStatement, SortStatement, StatementReader
-from second.terms import fold
+from second.terms import PARTS, fold
 
 MAX_DEPTH = 1_000
 MAX_EXPONENT = 1_000
@@ -41,6 +42,8 @@ class Vars(NamedTuple):
 class Goal(NamedTuple):
     left: list
     right: list
+    method: str
+    char0: bool
 
 
 class File:
@@ -98,10 +101,12 @@ class File:
         wanted = {"var": Vars, "hom": Hom}
         nodes = goal.left + goal.right
         refuse_first(self.faults_of_uses((n, wanted[n.op]) for n in nodes if n.op in wanted))
-        refuse_first(self.faults_of_sorts(goal))
-        self.statements.append(Goal(goal.left, goal.right))
+        sort = self.sort_of_goal(goal)
+        char0 = self.declared[sort].char0
+        self.statements.append(Goal(goal.left, goal.right, goal.method.kind, char0))
 
-    def faults_of_sorts(self, goal):
+    def sort_of_goal(self, goal):
+        """The sort of a goal, which is refused at its first fault of sorts."""
         faults = []
 
         def step(node, *parts):
@@ -112,6 +117,30 @@ class File:
             faults.append((goal.relation, NO_SORT))
         elif differ(left, right):
             faults.append((goal.relation, SORTS_DIFFER))
+        sort = left if left is not None else right
+        for side in (goal.left, goal.right):
+            faults += self.faults_of_quotients(side, sort, goal.method.kind == "field")
+        if goal.method.kind == "field" and self.is_no_field(sort):
+            faults.append((goal.method.at, NOT_FIELD))
+        refuse_first(faults)
+        return sort
+
+    def is_no_field(self, sort):
+        return sort is not None and self.declared[sort].kind != "field"
+
+    def faults_of_quotients(self, nodes, sort, may_divide):
+        """Quotients elsewhere than in fields, found from the head down."""
+        faults = []
+        places = [(sort, True)]
+        for node in reversed(nodes):
+            final, in_fields = places.pop()
+            if node.op == "/" and (not may_divide or self.is_no_field(final) or not in_fields):
+                faults.append((node.at, DIVISION))
+            if node.op == "hom":
+                hom = self.declared[node.value]
+                places.append((hom.source, in_fields and not self.is_no_field(hom.target)))
+            else:
+                places.extend([(final, in_fields)] * PARTS[node.op])
         return faults
 
     def own_sort(self, node, parts, faults):
@@ -126,8 +155,6 @@ class File:
             return self.sort_of(node.value)
         if node.op == "^" and node.value.value > MAX_EXPONENT:
             faults.append((node.value.at, EXPONENT))
-        if node.op == "/":
-            faults.append((node.at, DIVISION))
         if len(parts) == 2 and differ(*parts):
             faults.append((node.at, SORTS_DIFFER))
         return next((sort for sort in parts if sort is not None), None)

@@ -4,9 +4,10 @@ from functools import cmp_to_key
 
 from second.faults import Refused
 from second.files import Goal, read_file
+from second.fractions import FieldArithmetic, ZeroDenominator
 from second.polynomials import Arithmetic, Overrun
 from second.terms import PARTS, fold
-from second.texts import mono_text, statement_text
+from second.texts import mono_text, statement_text, term_text
 
 MAX_BYTES = 1_048_576
 MAX_ATOMS = 1_000
@@ -57,19 +58,36 @@ def greatest_difference(left, right, numbers):
     return max(differing, key=lambda m: cmp_to_key(grevlex)(numbered(m)))
 
 
+def sides_by_ring(goal):
+    """The polynomials of both sides, and no conditions."""
+    arithmetic = Arithmetic()
+    return fold(goal.left, arithmetic.of_node), fold(goal.right, arithmetic.of_node), []
+
+
+def sides_by_field(goal):
+    """Both numerators over common factors, and the conditions."""
+    arithmetic = FieldArithmetic()
+    left = fold(goal.left, arithmetic.of_fraction_node).fraction
+    right = fold(goal.right, arithmetic.of_fraction_node).fraction
+    numerators = arithmetic.numerators(left, right)
+    return *numerators, arithmetic.conditions(goal.char0)
+
+
 def answer(goal):
     """The text of the answer to a goal, without the `.`."""
     numbers = numbering(goal)
     if len(numbers) > MAX_ATOMS:
         return "atoms"
-    arithmetic = Arithmetic()
+    sides = sides_by_field if goal.method == "field" else sides_by_ring
     try:
-        left = fold(goal.left, arithmetic.of_node)
-        right = fold(goal.right, arithmetic.of_node)
+        left, right, conditions = sides(goal)
     except Overrun as overrun:
         return str(overrun)
+    except ZeroDenominator as zero:
+        return f"zero denominator {term_text(zero.args[0])}"
     if left == right:
-        return "proved"
+        listed = ", ".join(f"{term_text(nodes)} <> 0" for nodes in conditions)
+        return f"proved if {listed}" if conditions else "proved"
     at = greatest_difference(left, right, numbers)
     pairs = sorted(at, key=lambda pair: numbers[pair[0]])
     return f"no at {mono_text(pairs)} : {left.get(at, 0)} and {right.get(at, 0)}"
@@ -90,5 +108,5 @@ def prove(data):
         if isinstance(statement, Goal):
             text = answer(statement)
             lines.append(f"  {text}.\n")
-            status = status if text == "proved" else 1
+            status = status if text.startswith("proved") else 1
     return "".join(lines).encode(), status

@@ -28,6 +28,7 @@ class GoalStatement(NamedTuple):
     left: list
     relation: int
     right: list
+    method: Token
 
 
 class StatementReader:
@@ -96,7 +97,7 @@ class StatementReader:
         left, relation = TermReader(self, "=").read()
         right, _ = TermReader(self, "by").read()
         method = self.take("ring", "field", "nsatz")
-        if method.kind != "ring":
+        if method.kind == "nsatz":
             raise Refused(LATER, method.at)
         self.take(".")
-        return GoalStatement(left, relation, right)
+        return GoalStatement(left, relation, right, method)

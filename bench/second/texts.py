@@ -45,4 +45,4 @@ def statement_text(statement):
         return f"hom {statement.name} : {statement.source} -> {statement.target}.\n"
     if isinstance(statement, Vars):
         return f"var {' '.join(statement.names)} : {statement.sort}.\n"
-    return f"goal {term_text(statement.left)} = {term_text(statement.right)} by ring.\n"
+    return f"goal {term_text(statement.left)} = {term_text(statement.right)} by {statement.method}.\n"
