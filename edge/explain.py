@@ -21,7 +21,7 @@ REFUSALS = [
     ("a sign that is none", RING + "goal x $ x = 0 by ring.\n", ":3:8: a character begins no token (code 2)",
      "      |        ^", "mend it by: leaving it out", 2),
     ("columns are characters", "ring R. # é漢\nvar é : R. goal é/é = 1 by ring.", ":2:18: ",
-     "      |                  ^", "mend it by: `by field`", 2),
+     "      |                  ^", "mend it by: `by field`; a field", 2),
     ("wide characters and tabs", "ring 漢.\tvar x : S.\n", ":1:17: ", "      |                  ^",
      "mend it by: declaring it first", 2),
     ("the end of the input", "ring R", ":1:7: the input ends inside a statement (code 5)", "      |       ^",
