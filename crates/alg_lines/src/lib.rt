@@ -7,7 +7,12 @@
 mod answer;
 mod cert;
 mod combination;
+#[cfg(test)]
+mod constant_tests;
+mod constants;
 
+pub use alg_mono::NoMemory;
 pub use answer::{Answer, GoalCheck};
 pub use cert::{Cert, GoalStep, Line};
 pub use combination::combine;
+pub use constants::constants_of;
