@@ -1,14 +1,14 @@
 -- The lines that are marked are those that are cited.
-use Rattle.std.specs.Prelude.{◌≡◌, ℕ, zero, suc, ◌+◌, ◌-◌, ◌<◌, ◌≤◌, ◌↔◌, Bool, true, false, cond, List, [], ◌∷◌, ◌++◌, length, replicate, slice_set}
+use Rattle.std.specs.Prelude.{◌≡◌, ℕ, zero, suc, ◌+◌, ◌-◌, ◌<◌, ◌≤◌, Bool, true, false, cond, List, [], ◌∷◌, ◌++◌, length, replicate, slice_set}
 use Rattle.std.proofs.Common.{get_or, refl, sym, ap, subst, ◌∙◌, ◌⊎◌, inl, inr, arith}
 use Rattle.std.proofs.lemmas.List.{length-append, length-replicate}
 use Rattle.alg_lines.specs.declared.cert.Line.{Line}
 use Rattle.alg_lines.specs.declared.cert.GoalStep.{GoalStep}
 use Rattle.alg_groebner.specs.Cited.{IsNumbered, StepsCite, IsCited, by_step, by_line, CiteEarlier, CiteLines}
 use Rattle.alg_groebner.specs.Laws.{MarksAreCited}
-use Rattle.alg_groebner.specs.Pruning.{mark, mark_steps, mark_line, mark_lines, marks_of}
+use Rattle.alg_groebner.specs.Pruning.{mark, mark_steps, mark_lines, marks_of}
 use Rattle.alg_groebner.proofs.Kept.{At, IsMarked, Closed, closed, set_here, steps_rise, lines_rise}
-use Rattle.alg_groebner.proofs.Pruned.{length-mark_steps, length-mark_lines, length-marks_of}
+use Rattle.alg_groebner.proofs.Pruned.{length-mark_steps, length-mark_lines}
 
 -- ---- what is cited is marked
 steps_marked : (total : ℕ) (ss : List GoalStep) (bs : List Bool) (n : ℕ) → total ≡ length bs → CiteLines total ss →

@@ -1,7 +1,7 @@
-use Rattle.std.specs.Prelude.{◌<◌, OnErr, Option, None, length, slice_get, slice_set, option_map, Some, All}
+use Rattle.std.specs.Prelude.{None, slice_get, slice_set, option_map, Some}
 use Rattle.std.proofs.Common.{rules, sym, ap, subst, ◌∙◌, ◌≡◌, List, [], ◌∷◌, ◌++◌}
 use Rattle.std.proofs.lemmas.List.Elements.{All-set}
-use Rattle.alg_pairs.specs.Buckets.{lesser, line_if, BelongsTo, IsFiled, least_of, least_in, AreSame}
+use Rattle.alg_pairs.specs.Buckets.{line_if, BelongsTo, IsFiled, least_of, least_in, AreSame}
 use Rattle.alg_pairs.specs.declared.bucket.Bucket.{Bucket}
 use Rattle.alg_pairs.specs.declared.lead.Lead.{Lead}
 use Rattle.alg_pairs.proofs.Lesser.{least_of-append, lesser_none}

@@ -1,4 +1,3 @@
-use Rattle.std.specs.Prelude.{Option}
 use Rattle.std.proofs.Common.{sym, ap, ◌∙◌, ◌≡◌, true, false, arith}
 use Rattle.alg_pairs.specs.Buckets.{lesser, Occurs}
 use Rattle.alg_pairs.proofs.Lesser.{lesser_none}
