@@ -90,8 +90,9 @@ module _ (given : ℕ) (made : List Line) (steps : List GoalStep) where
       elim (get_or v p false) as (λ t. get_or v p false ≡ t → AllKnown (cond t (mark (mark v l.i) l.j) v)) [
         | true ↦ λ e.
             let known = cited (rest p e) in
-            mark_known (mark v l.i) l.j c.0.2 (inr (by_line (p + 1) l known (f (p + 1) l (inl (refl, refl))) (inr refl)))
-            (mark_known v l.i c.0.0 (inr (by_line (p + 1) l known (f (p + 1) l (inl (refl, refl))) (inl refl))) rest)
+            let here = f (p + 1) l (inl (refl, refl)) in
+            mark_known (mark v l.i) l.j c.0.2 (inr (by_line (p + 1) l known here (inr refl)))
+            (mark_known v l.i c.0.0 (inr (by_line (p + 1) l known here (inl refl))) rest)
         | false ↦ λ e. rest
       ] refl
     where

@@ -54,6 +54,7 @@ pub returns-clause-added : goal.returns-clause-added
 returns-clause-added c = λ m.
     let bs = c.args.buckets.now.items in
     let b : Bucket = record { atom = c.least_atom_of-atom.result; leads = c.push-2.new.self } in
-    let one = c.in_ok-push-2.ensures.items ∙ ap (λ (xs : List Lead). xs ++ c.args.lead ∷ []) c.new-leads.ensures.items in
+    let one = c.in_ok-push-2.ensures.items
+    ∙ ap (λ (xs : List Lead). xs ++ c.args.lead ∷ []) c.new-leads.ensures.items in
     ap (least_in m) c.in_ok-push-3.ensures.items ∙ appended m (line_if m c.args.lead) bs b
     (ap (least_of m) one ∙ lesser_none (line_if m c.args.lead))
