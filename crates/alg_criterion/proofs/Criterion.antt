@@ -112,8 +112,8 @@ module _ {M : Type 0} {cmp : M → M → Ordering} (o : IsTotalOrder cmp) (anti 
                 ∙ +ℤ_idr (share *ℤ l₀.leading)
 
             some_there : val w (whole p) ≢ pos 0
-            some_there e = product_apart share l₀.leading n (leading_apart cmp times Ok In line l₀ in₀) (sym there ∙ ap (λ z. k *ℤ z) e
-                ∙ *ℤ_comm k (pos 0) ∙ zero-*ℤ k)
+            some_there e = product_apart share l₀.leading n (leading_apart cmp times Ok In line l₀ in₀)
+                (sym there ∙ ap (λ z. k *ℤ z) e ∙ *ℤ_comm k (pos 0) ∙ zero-*ℤ k)
 
             -- and nothing above it
             above : (q : M) → cmp q w ≡ Less → k *ℤ val q (whole p) ≡ pos 0

@@ -1,6 +1,6 @@
 -- A state has one next state or one end, and a run one end.
 use Rattle.std.specs.Prelude.{◌≡◌, ℕ, zero, suc, ◌<◌}
-use Rattle.std.proofs.Common.{refl, sym, ap, subst, ◌∙◌, arith}
+use Rattle.std.proofs.Common.{refl, ap, subst, arith}
 use Rattle.alg_groebner.specs.Laws.{OneStep, StaysInOrder, OneEnd, SomeEnd}
 use Rattle.alg_groebner.specs.State.{State, End, Next, Goes, Ends}
 use Rattle.alg_groebner.specs.Machine.{next}

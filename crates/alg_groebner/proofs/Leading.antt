@@ -1,19 +1,15 @@
 -- Leads of polynomials within the limits.
-use Rattle.std.specs.Prelude.{◌≡◌, ◌≢◌, ℕ, ◌≤◌, ◌↔◌, ◌&&◌, Bool, true, false, not, List, [], ◌∷◌, ℤ, pos, nat_le, Some, All, slice_get}
+use Rattle.std.specs.Prelude.{◌≡◌, ◌≢◌, ◌≤◌, ◌↔◌, Bool, true, false, not, List, [], ◌∷◌, ℤ, pos, Some, slice_get}
 use Rattle.std.proofs.Common.{refl, sym, subst, T, arith}
 use Rattle.std.specs.Int.RustNames.{unsigned_abs}
 use Rattle.std.specs.Ordering.{nat_cmp}
-use Rattle.std.specs.Cmp.{nat_cmp_total}
-use Rattle.std.specs.FinMap.{nat_cmp-IsAntisymmetric}
-use Rattle.std.proofs.lemmas.List.Elements.{All-nil, All-head, All-tail, All-cons}
 use Rattle.alg_mono.specs.FiniteMaps.{IsCanonical}
-use Rattle.alg_mono.specs.Mono.{FitsIn, Monomial}
-use Rattle.alg_mono.specs.Monomials.{Divides, exponent}
+use Rattle.alg_mono.specs.Mono.{Monomial}
+use Rattle.alg_mono.specs.Monomials.{Divides}
 use Rattle.alg_mono.specs.Numbers.{exponents, is_zero}
 use Rattle.alg_mono.specs.Polynomials.{IsPoly, MAX}
 use Rattle.alg_mono.proofs.Canonical.{first}
 use Rattle.alg_mono.proofs.Norms.{norm-cons}
-use Rattle.alg_mono.proofs.Quotients.{divides_if_fits, fits_if_divides}
 use Rattle.alg_mono.specs.NumberedPolynomials.{Polynomial}
 use Rattle.alg_pairs.specs.Leads.{divides}
 use Rattle.alg_pairs.proofs.Dividing.{divides_says, same_answer}

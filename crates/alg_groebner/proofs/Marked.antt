@@ -1,14 +1,14 @@
 -- The lines that are marked are those that are cited.
-use Rattle.std.specs.Prelude.{◌≡◌, ℕ, zero, suc, ◌+◌, ◌-◌, ◌<◌, ◌≤◌, ◌↔◌, Bool, true, false, cond, List, [], ◌∷◌, ◌++◌, length, replicate, slice_set}
+use Rattle.std.specs.Prelude.{◌≡◌, ℕ, zero, suc, ◌+◌, ◌-◌, ◌<◌, ◌≤◌, Bool, true, false, cond, List, [], ◌∷◌, ◌++◌, length, replicate, slice_set}
 use Rattle.std.proofs.Common.{get_or, refl, sym, ap, subst, ◌∙◌, ◌⊎◌, inl, inr, arith}
 use Rattle.std.proofs.lemmas.List.{length-append, length-replicate}
 use Rattle.alg_lines.specs.declared.cert.Line.{Line}
 use Rattle.alg_lines.specs.declared.cert.GoalStep.{GoalStep}
 use Rattle.alg_groebner.specs.Cited.{IsNumbered, StepsCite, IsCited, by_step, by_line, CiteEarlier, CiteLines}
 use Rattle.alg_groebner.specs.Laws.{MarksAreCited}
-use Rattle.alg_groebner.specs.Pruning.{mark, mark_steps, mark_line, mark_lines, marks_of}
+use Rattle.alg_groebner.specs.Pruning.{mark, mark_steps, mark_lines, marks_of}
 use Rattle.alg_groebner.proofs.Kept.{At, IsMarked, Closed, closed, set_here, steps_rise, lines_rise}
-use Rattle.alg_groebner.proofs.Pruned.{length-mark_steps, length-mark_lines, length-marks_of}
+use Rattle.alg_groebner.proofs.Pruned.{length-mark_steps, length-mark_lines}
 
 -- ---- what is cited is marked
 steps_marked : (total : ℕ) (ss : List GoalStep) (bs : List Bool) (n : ℕ) → total ≡ length bs → CiteLines total ss →
@@ -90,8 +90,9 @@ module _ (given : ℕ) (made : List Line) (steps : List GoalStep) where
       elim (get_or v p false) as (λ t. get_or v p false ≡ t → AllKnown (cond t (mark (mark v l.i) l.j) v)) [
         | true ↦ λ e.
             let known = cited (rest p e) in
-            mark_known (mark v l.i) l.j c.0.2 (inr (by_line (p + 1) l known (f (p + 1) l (inl (refl, refl))) (inr refl)))
-            (mark_known v l.i c.0.0 (inr (by_line (p + 1) l known (f (p + 1) l (inl (refl, refl))) (inl refl))) rest)
+            let here = f (p + 1) l (inl (refl, refl)) in
+            mark_known (mark v l.i) l.j c.0.2 (inr (by_line (p + 1) l known here (inr refl)))
+            (mark_known v l.i c.0.0 (inr (by_line (p + 1) l known here (inl refl))) rest)
         | false ↦ λ e. rest
       ] refl
     where

@@ -1,22 +1,14 @@
 -- At most one rule is taken, with at most one next state or end.
-use Rattle.std.specs.Prelude.{◌≡◌, ◌≢◌, ℕ, zero, suc, ◌+◌, ◌-◌, ◌<◌, ◌≤◌, ◌==◌, Bool, true, false, cond, nat_lt, List, [], ◌∷◌, Option, Some, None, length, All}
-use Rattle.std.proofs.Common.{refl, sym, ap, subst, ◌∙◌, ◌⊎◌, inl, inr, arith}
-use Rattle.std.proofs.lemmas.Bool.{cases_lt}
-use Rattle.alg_mono.specs.NumberedPolynomials.{Polynomial}
-use Rattle.alg_mono.specs.Outcomes.{is_nothing}
+use Rattle.std.specs.Prelude.{◌≡◌, ℕ, ◌==◌, cond, List, ◌∷◌, Option, Some}
+use Rattle.std.proofs.Common.{refl, sym, ap, subst, ◌∙◌, arith}
 use Rattle.alg_lines.specs.Lines.{line_at}
 use Rattle.alg_pairs.specs.declared.pair.Pair.{Pair}
-use Rattle.alg_groebner.specs.Choices.{remainder_at, reducer, first_reducible, zero_power}
-use Rattle.alg_groebner.specs.Leads.{reduces}
-use Rattle.alg_groebner.specs.Machine.{counted, by_pairs, by_inputs, by_reducible, by_reducer, by_line, by_current, by_power, next}
-use Rattle.alg_groebner.specs.Moves.{goal_outcome, goal_reduced, dropped, line_outcome, line_reduced, joined, next_taken, without_pair, pair_outcome, pair_taken}
-use Rattle.alg_groebner.specs.Rules.{IsLeast, IsZeroPower, ReducesIt, IsReducibleAt, IsLeastPair, Rule, Rule1, Rule2, Rule3, Rule4, Rule5, Rule6, Rule7, Rule8, number, Does, Takes, Rises, ArePairsRising, IsInOrder}
-use Rattle.alg_groebner.specs.Sound.{IsIn}
+use Rattle.alg_groebner.specs.Choices.{remainder_at}
+use Rattle.alg_groebner.specs.Machine.{counted}
+use Rattle.alg_groebner.specs.Moves.{goal_outcome, goal_reduced, line_outcome, line_reduced, joined, without_pair, pair_outcome, pair_taken}
+use Rattle.alg_groebner.specs.Rules.{IsLeast, ReducesIt, Rule, Rule1, Rule2, Rule3, Rule4, Rule5, Rule6, Rule7, Rule8, number, Does, Takes}
 use Rattle.alg_groebner.specs.State.{State, End, Next, Goes, Ends}
-use Rattle.alg_groebner.specs.declared.remainder.Remainder.{Remainder}
-use Rattle.alg_groebner.proofs.Adding.{is_less, not_less}
-use Rattle.alg_groebner.proofs.Found.{same_some, none_some}
-use Rattle.alg_groebner.proofs.Least.{find_first, find_none, position_first, position_none, reducible_first, reducible_none}
+use Rattle.alg_groebner.proofs.Found.{same_some}
 
 -- ---- at most one
 one_least : {P : ℕ → Type 0} (a b : ℕ) → IsLeast P a → IsLeast P b → a ≡ b

@@ -1,9 +1,7 @@
-use Rattle.std.proofs.Common.{rules, subst}
+use Rattle.std.proofs.Common.{rules}
 use mir.Syntax.{w128}
 use mir.Val.{SFits}
-use Rattle.std.specs.Ordering.{nat_cmp}
 use Rattle.std.proofs.lemmas.Int.{to_z-of_z}
-use Rattle.alg_mono.specs.Polynomials.{IsPoly}
 use Rattle.alg_groebner.proofs.Cancelling.{content_number}
 use Rattle.alg_groebner.proofs.cancel.content_of.Goals as goal
 

@@ -1,5 +1,5 @@
 use Rattle.std.specs.Prelude.{◌≡◌, ◌+◌, ◌*◌, ◌≤◌}
-use Rattle.std.proofs.Common.{rules, sym, ap, subst, ◌∙◌, arith}
+use Rattle.std.proofs.Common.{rules, sym, ap, subst, ◌∙◌}
 use lib.IntN.{neg_ℤ}
 use mir.Syntax.{w128}
 use mir.Val.{SFits}

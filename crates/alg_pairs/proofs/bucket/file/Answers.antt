@@ -1,7 +1,7 @@
-use Rattle.std.specs.Prelude.{◌<◌, OnErr, Option, None, length, slice_get, slice_set, option_map, Some, All}
+use Rattle.std.specs.Prelude.{None, slice_get, slice_set, option_map, Some}
 use Rattle.std.proofs.Common.{rules, sym, ap, subst, ◌∙◌, ◌≡◌, List, [], ◌∷◌, ◌++◌}
 use Rattle.std.proofs.lemmas.List.Elements.{All-set}
-use Rattle.alg_pairs.specs.Buckets.{lesser, line_if, BelongsTo, IsFiled, least_of, least_in, AreSame}
+use Rattle.alg_pairs.specs.Buckets.{line_if, BelongsTo, IsFiled, least_of, least_in, AreSame}
 use Rattle.alg_pairs.specs.declared.bucket.Bucket.{Bucket}
 use Rattle.alg_pairs.specs.declared.lead.Lead.{Lead}
 use Rattle.alg_pairs.proofs.Lesser.{least_of-append, lesser_none}
@@ -54,6 +54,7 @@ pub returns-clause-added : goal.returns-clause-added
 returns-clause-added c = λ m.
     let bs = c.args.buckets.now.items in
     let b : Bucket = record { atom = c.least_atom_of-atom.result; leads = c.push-2.new.self } in
-    let one = c.in_ok-push-2.ensures.items ∙ ap (λ (xs : List Lead). xs ++ c.args.lead ∷ []) c.new-leads.ensures.items in
+    let one = c.in_ok-push-2.ensures.items
+    ∙ ap (λ (xs : List Lead). xs ++ c.args.lead ∷ []) c.new-leads.ensures.items in
     ap (least_in m) c.in_ok-push-3.ensures.items ∙ appended m (line_if m c.args.lead) bs b
     (ap (least_of m) one ∙ lesser_none (line_if m c.args.lead))

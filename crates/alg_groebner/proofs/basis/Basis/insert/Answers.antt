@@ -21,7 +21,8 @@ invariant_of-self-2 c =
     let is = c.in_ok-lead.ensures ∙ c.lead_of.ensures.value in
     record {
       same = c.in_ok-insert.ensures.added
-          ∙ ap (λ (xs : List Lead). insert_key line_cmp xs (record { line = c.args.member.number; lead = c.in_ok-lead.lead }))
+          ∙ ap (λ (xs : List Lead). insert_key line_cmp xs
+          (record { line = c.args.member.number; lead = c.in_ok-lead.lead }))
           c.self.invariant.same
           ∙ ap (λ (m : Monomial). insert_key line_cmp (map lead_of old)
           (record { line = c.args.member.number; lead = m })) is

@@ -1,4 +1,4 @@
-use Rattle.std.specs.Prelude.{None, Option, slice_get}
+use Rattle.std.specs.Prelude.{slice_get}
 use Rattle.std.proofs.Common.{sym, ap, ◌∙◌, List}
 use Rattle.alg_groebner.specs.Bases.{looked_up}
 use Rattle.alg_groebner.specs.Work.{member_reducer}

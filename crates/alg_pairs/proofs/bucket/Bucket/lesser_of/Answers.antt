@@ -1,4 +1,3 @@
-use Rattle.std.specs.Prelude.{Option}
 use Rattle.std.proofs.Common.{sym, ap, ◌∙◌, ◌≡◌, true, false, arith}
 use Rattle.alg_pairs.specs.Buckets.{lesser, Occurs}
 use Rattle.alg_pairs.proofs.Lesser.{lesser_none}
@@ -12,5 +11,6 @@ different e = grind arith
 pub returns-then-not-occurs_in : goal.returns-then-not-occurs_in
 returns-then-not-occurs_in c =
     let b = c.args.self.now in
-    let no : Occurs b.atom c.args.m.now → ⊥ = λ h. different (sym (c.occurs_in.ensures.1 h) ∙ c.if-not-occurs_in.true) in
+    let no : Occurs b.atom c.args.m.now → ⊥ =
+    λ h. different (sym (c.occurs_in.ensures.1 h) ∙ c.if-not-occurs_in.true) in
     sym (ap (lesser c.args.least) (skipped b.atom b.leads.items c.args.m.now c.requires no) ∙ lesser_none c.args.least)
