@@ -76,8 +76,8 @@ module _ (old new : File) (grows : Grows old new) (valid : IsValid old) where
   hyp_same hyp h = record { equation = equation_same hyp.equation h.equation; divides_nowhere = h.divides_nowhere }
 
   -- quotients of fields are so still
-  field_node : (s : ℕ) (above : List ℕ) (n : Term-F Term) → s < length old.sorts → All (λ f. f < length old.homs) above →
-      DividesInFields old s above n → DividesInFields new s above n
+  field_node : (s : ℕ) (above : List ℕ) (n : Term-F Term) → s < length old.sorts →
+      All (λ f. f < length old.homs) above → DividesInFields old s above n → DividesInFields new s above n
   field_node s above (Term-F.Div t u) low up h =
       (field_same old new grows s low h.0, field_targets old new grows valid.homs above up h.1)
   field_node s above _ low up h = tt

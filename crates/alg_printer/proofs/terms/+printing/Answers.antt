@@ -21,44 +21,64 @@ put_term-put_part-requires t c =
     (search (rules, the_lemmas), named_part Unary.Opposite c.args.file.now _ _ _ c.in-Neg.is c.get.ensures c.requires)
 
 pub put_term-put_part-requires-in-Pow : goal.put_term-put_part-requires-in-Pow
-put_term-put_part-requires-in-Pow t c =
-    (search (rules, the_lemmas), named_part (Unary.Power _) c.args.file.now _ _ _ c.in-Pow.is c.get-in-Pow.ensures c.requires)
+put_term-put_part-requires-in-Pow t c = (
+  search (rules, the_lemmas),
+  named_part (Unary.Power _) c.args.file.now _ _ _ c.in-Pow.is c.get-in-Pow.ensures c.requires,
+)
 
 pub put_term-put_term-requires : goal.put_term-put_term-requires
-put_term-put_term-requires t c =
-    (search (rules, the_lemmas), named_part (Unary.Image _) c.args.file.now _ _ _ c.in-Hom.is c.get-in-Hom.ensures c.requires)
+put_term-put_term-requires t c = (
+  search (rules, the_lemmas),
+  named_part (Unary.Image _) c.args.file.now _ _ _ c.in-Hom.is c.get-in-Hom.ensures c.requires,
+)
 
 pub put_term-put_part-requires-in-Add : goal.put_term-put_part-requires-in-Add
-put_term-put_part-requires-in-Add t c =
-    (search (rules, the_lemmas), named_left Binary.Sum c.args.file.now _ _ _ _ c.in-Add.is c.get-in-Add.ensures c.requires)
+put_term-put_part-requires-in-Add t c = (
+  search (rules, the_lemmas),
+  named_left Binary.Sum c.args.file.now _ _ _ _ c.in-Add.is c.get-in-Add.ensures c.requires,
+)
 
 pub put_term-put_part-requires-in-Add-2 : goal.put_term-put_part-requires-in-Add-2
-put_term-put_part-requires-in-Add-2 t c =
-    (search (rules, the_lemmas), named_right Binary.Sum c.args.file.now _ _ _ _ c.in-Add.is c.get-in-Add-2.ensures c.requires)
+put_term-put_part-requires-in-Add-2 t c = (
+  search (rules, the_lemmas),
+  named_right Binary.Sum c.args.file.now _ _ _ _ c.in-Add.is c.get-in-Add-2.ensures c.requires,
+)
 
 pub put_term-put_part-requires-in-Sub : goal.put_term-put_part-requires-in-Sub
-put_term-put_part-requires-in-Sub t c =
-    (search (rules, the_lemmas), named_left Binary.Difference c.args.file.now _ _ _ _ c.in-Sub.is c.get-in-Sub.ensures c.requires)
+put_term-put_part-requires-in-Sub t c = (
+  search (rules, the_lemmas),
+  named_left Binary.Difference c.args.file.now _ _ _ _ c.in-Sub.is c.get-in-Sub.ensures c.requires,
+)
 
 pub put_term-put_part-requires-in-Sub-2 : goal.put_term-put_part-requires-in-Sub-2
-put_term-put_part-requires-in-Sub-2 t c =
-    (search (rules, the_lemmas), named_right Binary.Difference c.args.file.now _ _ _ _ c.in-Sub.is c.get-in-Sub-2.ensures c.requires)
+put_term-put_part-requires-in-Sub-2 t c = (
+  search (rules, the_lemmas),
+  named_right Binary.Difference c.args.file.now _ _ _ _ c.in-Sub.is c.get-in-Sub-2.ensures c.requires,
+)
 
 pub put_term-put_part-requires-in-Mul : goal.put_term-put_part-requires-in-Mul
-put_term-put_part-requires-in-Mul t c =
-    (search (rules, the_lemmas), named_left Binary.Product c.args.file.now _ _ _ _ c.in-Mul.is c.get-in-Mul.ensures c.requires)
+put_term-put_part-requires-in-Mul t c = (
+  search (rules, the_lemmas),
+  named_left Binary.Product c.args.file.now _ _ _ _ c.in-Mul.is c.get-in-Mul.ensures c.requires,
+)
 
 pub put_term-put_part-requires-in-Mul-2 : goal.put_term-put_part-requires-in-Mul-2
-put_term-put_part-requires-in-Mul-2 t c =
-    (search (rules, the_lemmas), named_right Binary.Product c.args.file.now _ _ _ _ c.in-Mul.is c.get-in-Mul-2.ensures c.requires)
+put_term-put_part-requires-in-Mul-2 t c = (
+  search (rules, the_lemmas),
+  named_right Binary.Product c.args.file.now _ _ _ _ c.in-Mul.is c.get-in-Mul-2.ensures c.requires,
+)
 
 pub put_term-put_part-requires-in-Div : goal.put_term-put_part-requires-in-Div
-put_term-put_part-requires-in-Div t c =
-    (search (rules, the_lemmas), named_left Binary.Quotient c.args.file.now _ _ _ _ c.in-Div.is c.get-in-Div.ensures c.requires)
+put_term-put_part-requires-in-Div t c = (
+  search (rules, the_lemmas),
+  named_left Binary.Quotient c.args.file.now _ _ _ _ c.in-Div.is c.get-in-Div.ensures c.requires,
+)
 
 pub put_term-put_part-requires-in-Div-2 : goal.put_term-put_part-requires-in-Div-2
-put_term-put_part-requires-in-Div-2 t c =
-    (search (rules, the_lemmas), named_right Binary.Quotient c.args.file.now _ _ _ _ c.in-Div.is c.get-in-Div-2.ensures c.requires)
+put_term-put_part-requires-in-Div-2 t c = (
+  search (rules, the_lemmas),
+  named_right Binary.Quotient c.args.file.now _ _ _ _ c.in-Div.is c.get-in-Div-2.ensures c.requires,
+)
 
 -- the text grew by that of the node
 pub put_term-returns-in-Var : goal.put_term-returns-in-Var
