@@ -2,7 +2,7 @@
 use Rattle.std.proofs.Common.{◌≡◌, ◌<◌, ℕ, List, [], ◌∷◌, length, Option, None, Some, sym, ap, ◌∙◌, subst, arith}
 use Rattle.std.specs.Prelude.{All, IfSome}
 use Rattle.std.specs.Option.{option_or}
-use Rattle.std.proofs.lemmas.List.Elements.{All-head, All-tail, All-cons, All-nil, All-weaker}
+use Rattle.std.proofs.lemmas.List.Elements.{All-head, All-tail, All-nil, All-weaker}
 use Rattle.alg_terms.specs.declared.file.File.{File}
 use Rattle.alg_terms.specs.declared.goals.Equation.{Equation}
 use Rattle.alg_terms.specs.declared.goals.Goal.{Goal}
@@ -16,7 +16,7 @@ use Rattle.alg_terms.specs.GoalRules.{IsEquation, IsHyp, IsUse, MayBeBy, IsGoal}
 use Rattle.alg_terms.specs.Kinds.{IsDomain, IsField}
 use Rattle.alg_terms.specs.Members.{kind_of, source_of, hyp_at, no_hyp, no_hom, no_var}
 use Rattle.alg_terms.specs.Nodes.{fold_term, EachNode}
-use Rattle.alg_terms.specs.Sorts.{own_sort, equation_sort, EachNodeAt, Leads, hyp_sort}
+use Rattle.alg_terms.specs.Sorts.{own_sort, equation_sort, Leads, hyp_sort}
 use Rattle.alg_terms.specs.TermRules.{IsInRange, HasFieldQuotients, DividesInFields}
 use Rattle.alg_terms.specs.Valid.{IsValid, IsHom, IsVar}
 use Rattle.alg_typing.proofs.Growing.{Grows, kind_same, source_same, target_same, field_same, field_targets, agree_same}
