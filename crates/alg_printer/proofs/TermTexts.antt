@@ -3,8 +3,9 @@ use Rattle.std.proofs.Common.{◌≡◌, ℕ, ℤ, ◌++◌, codes, decimal, sym
 use Rattle.std.specs.Fmt.{signed_decimal}
 use Rattle.alg_terms.specs.declared.file.File.{File}
 use Rattle.alg_terms.specs.declared.term.Term.{Term}
-use Rattle.alg_terms.specs.declared.term.Term.TheVariants.{Var, Int, Neg, Add, Sub, Mul, Div, Pow, Hom}
-use Rattle.alg_terms.proofs.Built.{fold_term-Var, fold_term-Int, fold_term-Neg, fold_term-Add, fold_term-Sub, fold_term-Mul, fold_term-Div, fold_term-Pow, fold_term-Hom}
+use Rattle.alg_terms.specs.declared.term.Term.TheVariants.{Var, Int, Neg, Pow, Hom}
+use Rattle.alg_terms.proofs.Built.{fold_term-Var, fold_term-Int, fold_term-Neg, fold_term-Pow, fold_term-Hom}
+use Rattle.alg_terms.proofs.Views.{Binary, binary, binary_node, fold_binary}
 use Rattle.alg_printer.specs.Names.{hom_name, var_name, in_parentheses}
 use Rattle.alg_printer.specs.Terms.{part_text, printed, term_text, node_printed}
 
@@ -30,26 +31,9 @@ pub text-Hom : (file : File) (t p q : Term) (n : ℕ) → t ≡ Hom n p → q �
 text-Hom file t p q n e f =
     ap (term_text file) (e ∙ ap (λ u. Hom n u) (sym f)) ∙ ap (λ p. p.text) (fold_term-Hom (node_printed file) n q)
 
-pub text-Add : (file : File) (t l r p q : Term) → t ≡ Add l r → p ≡ l → q ≡ r →
-    term_text file t ≡ part_text 1 (printed file p) ++ codes " + " ++ part_text 2 (printed file q)
-text-Add file t l r p q e f g =
-    ap (term_text file) (e ∙ ap (λ u. Add u r) (sym f) ∙ ap (λ u. Add p u) (sym g))
-    ∙ ap (λ p. p.text) (fold_term-Add (node_printed file) p q)
-
-pub text-Sub : (file : File) (t l r p q : Term) → t ≡ Sub l r → p ≡ l → q ≡ r →
-    term_text file t ≡ part_text 1 (printed file p) ++ codes " - " ++ part_text 2 (printed file q)
-text-Sub file t l r p q e f g =
-    ap (term_text file) (e ∙ ap (λ u. Sub u r) (sym f) ∙ ap (λ u. Sub p u) (sym g))
-    ∙ ap (λ p. p.text) (fold_term-Sub (node_printed file) p q)
-
-pub text-Mul : (file : File) (t l r p q : Term) → t ≡ Mul l r → p ≡ l → q ≡ r →
-    term_text file t ≡ part_text 2 (printed file p) ++ codes "*" ++ part_text 3 (printed file q)
-text-Mul file t l r p q e f g =
-    ap (term_text file) (e ∙ ap (λ u. Mul u r) (sym f) ∙ ap (λ u. Mul p u) (sym g))
-    ∙ ap (λ p. p.text) (fold_term-Mul (node_printed file) p q)
-
-pub text-Div : (file : File) (t l r p q : Term) → t ≡ Div l r → p ≡ l → q ≡ r →
-    term_text file t ≡ part_text 2 (printed file p) ++ codes "/" ++ part_text 3 (printed file q)
-text-Div file t l r p q e f g =
-    ap (term_text file) (e ∙ ap (λ u. Div u r) (sym f) ∙ ap (λ u. Div p u) (sym g))
-    ∙ ap (λ p. p.text) (fold_term-Div (node_printed file) p q)
+-- an operation on two parts
+pub text_binary : (o : Binary) (file : File) (t l r p q : Term) → t ≡ binary o l r → p ≡ l → q ≡ r →
+    term_text file t ≡ (node_printed file (binary_node o (printed file p) (printed file q))).text
+text_binary o file t l r p q e f g =
+    ap (term_text file) (e ∙ ap (λ u. binary o u r) (sym f) ∙ ap (binary o p) (sym g))
+    ∙ ap (λ p. p.text) (fold_binary (node_printed file) o p q)

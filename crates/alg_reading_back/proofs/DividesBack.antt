@@ -1,16 +1,17 @@
 -- Where terms of a file divide, they divide in its front.
-use Rattle.std.proofs.Common.{◌<◌, ℕ, true, List, ◌∷◌, length, refl, subst}
+use Rattle.std.proofs.Common.{◌<◌, ℕ, true, List, length, refl, subst, ◌≡◌, sym}
 use Rattle.std.specs.Prelude.{All, slice_index_or}
-use Rattle.std.proofs.lemmas.List.Elements.{All-cons}
 use Rattle.alg_terms.specs.declared.file.File.{File}
-use Rattle.alg_terms.specs.declared.term.Term.{Term, more_of-Term, Var, Int, Neg', Add', Sub', Mul', Div', Pow', Hom'}
+use Rattle.alg_terms.specs.declared.term.Term.{Term}
+use Rattle.alg_terms.specs.declared.term.Term.TheOpen.{Term-F}
 use Rattle.alg_terms.specs.Kinds.{IsField}
 use Rattle.alg_terms.specs.Members.{kind_of, source_of, target_of, no_hom}
 use Rattle.alg_terms.specs.Nodes.{EachNode}
 use Rattle.alg_terms.specs.Sorts.{EachNodeAt}
 use Rattle.alg_terms.specs.TermRules.{IsInRange, DividesInFields}
+use Rattle.alg_typing.proofs.OtherFiles.{nodes_go_over}
 use Rattle.alg_typing.proofs.Growing.{Grows, kind_same, source_same, target_same}
-use Rattle.alg_typing.proofs.SortsClear.{Divides}
+use Rattle.alg_typing.proofs.SortsClear.{Divides, DividesWhere}
 use Rattle.alg_reading_back.proofs.Closed.{IsClosed}
 
 module _ (g file : File) (grows : Grows g file) (closed : IsClosed g) where
@@ -29,28 +30,17 @@ module _ (g file : File) (grows : Grows g file) (closed : IsClosed g) where
       (subst (λ s. IsField (kind_of file s)) (target_same g file grows f here) (fields k d h))
 
   -- a term that divides in fields of the file does so in the front
+  field_node : (s : ℕ) (above : List ℕ) (n : Term-F Term) → s < length g.sorts → All (λ f. f < length g.homs) above →
+      DividesInFields file s above n → DividesWhere g true s above n
+  field_node s above (Term-F.Div t u) low up h = (refl, (field_back s low h.0, targets_back above up h.1))
+  field_node s above _ low up h = tt
+
+  known : (f : ℕ) (t : Term) → IsInRange g (Term-F.Hom f t) →
+      (f < length g.homs) × (source_of g f < length g.sorts) × (source_of g f ≡ source_of file f)
+  known f t r = (r, (closed.homs f no_hom r).source, sym (source_same g file grows f r))
+
   pub fields_divide : (t : Term) (s : ℕ) (above : List ℕ) → s < length g.sorts → EachNode (IsInRange g) t →
       All (λ f. f < length g.homs) above → EachNodeAt file (DividesInFields file) s above t → Divides g true s above t
-  unfolding EachNode EachNodeAt
-  fields_divide (Var k) s above low r up h = tt
-  fields_divide (Int n) s above low r up h = tt
-  fields_divide (Neg' _ (more_of-Term t _)) s above low r up h = (tt, fields_divide t s above low r.1 up h.1)
-  fields_divide (Add' _ (more_of-Term t _) _ (more_of-Term u _)) s above low r up h =
-      (tt, fields_divide t s above low r.1 up h.1, fields_divide u s above low r.2 up h.2)
-  fields_divide (Sub' _ (more_of-Term t _) _ (more_of-Term u _)) s above low r up h =
-      (tt, fields_divide t s above low r.1 up h.1, fields_divide u s above low r.2 up h.2)
-  fields_divide (Mul' _ (more_of-Term t _) _ (more_of-Term u _)) s above low r up h =
-      (tt, fields_divide t s above low r.1 up h.1, fields_divide u s above low r.2 up h.2)
-  fields_divide (Div' _ (more_of-Term t _) _ (more_of-Term u _)) s above low r up h = (
-    (refl, (field_back s low h.0.0, targets_back above up h.0.1)),
-    fields_divide t s above low r.1 up h.1,
-    fields_divide u s above low r.2 up h.2,
-  )
-  fields_divide (Pow' _ (more_of-Term t _) n) s above low r up h = (tt, fields_divide t s above low r.1 up h.1)
-  fields_divide (Hom' f _ (more_of-Term t _)) s above low r up h =
-      let source = source_same g file grows f r.0 in
-      let P : ℕ → Type 0 = λ s. EachNodeAt file (DividesInFields file) s (f ∷ above) t in (
-        tt,
-        fields_divide t (source_of g f) (f ∷ above) (closed.homs f no_hom r.0).source r.1
-            (All-cons (λ g'. g' < length g.homs) f above r.0 up) (subst P source h.1),
-      )
+  fields_divide t s above low r up h =
+      nodes_go_over file g (IsInRange g) (λ s. s < length g.sorts) (λ f. f < length g.homs) known
+      (DividesInFields file) (DividesWhere g true) field_node t s above low up r h

@@ -1,9 +1,10 @@
 -- The leaves of a term by those of its parts.
-use Rattle.std.proofs.Common.{◌≡◌, ◌⊎◌, inl, inr, ℕ, ℤ, List, [], ◌∷◌, ◌++◌, ap, ◌∙◌}
+use Rattle.std.proofs.Common.{◌≡◌, ◌⊎◌, inl, inr, ℕ, ℤ, List, [], ◌∷◌, ◌++◌, refl, ap, ◌∙◌}
 use Rattle.alg_terms.specs.declared.term.Atom.{Atom}
 use Rattle.alg_terms.specs.declared.term.Term.{Term}
 use Rattle.alg_terms.specs.declared.term.Term.TheVariants.{Var, Int, Neg, Add, Sub, Mul, Div, Pow, Hom}
-use Rattle.alg_terms.proofs.Built.{fold_term-Var, fold_term-Int, fold_term-Neg, fold_term-Add, fold_term-Sub, fold_term-Mul, fold_term-Div, fold_term-Pow, fold_term-Hom}
+use Rattle.alg_terms.proofs.Built.{fold_term-Var, fold_term-Int, fold_term-Neg, fold_term-Pow, fold_term-Hom}
+use Rattle.alg_terms.proofs.Views.{Binary, binary, binary_node, each_binary, fold_binary}
 use Rattle.alg_reify.specs.Table.{leaves, node_leaves}
 
 -- what a fold gives at a path
@@ -28,9 +29,17 @@ leaves-Hom path f t = ap (At path) (fold_term-Hom node_leaves f t)
 
 pub ruleset leaves_built = (leaves-Var, leaves-Int, leaves-Neg, leaves-Pow, leaves-Hom)
 
+-- an operation on two parts
+pub leaves_binary : (path : List ℕ) (o : Binary) (l r : Term) →
+    leaves path (binary o l r) ≡ leaves path l ++ leaves path r
+leaves_binary path o l r =
+    ap (At path) (fold_binary node_leaves o l r)
+    ∙ each_binary (λ o. node_leaves (binary_node o (λ p. leaves p l) (λ p. leaves p r)) path
+    ≡ leaves path l ++ leaves path r) refl refl refl refl o
+
 pub leaves-both : (path : List ℕ) (t l r : Term) → (t ≡ Add l r) ⊎ ((t ≡ Sub l r) ⊎ ((t ≡ Mul l r) ⊎ (t ≡ Div l r)))
     → leaves path t ≡ leaves path l ++ leaves path r
-leaves-both path t l r (inl e) = ap (leaves path) e ∙ ap (At path) (fold_term-Add node_leaves l r)
-leaves-both path t l r (inr (inl e)) = ap (leaves path) e ∙ ap (At path) (fold_term-Sub node_leaves l r)
-leaves-both path t l r (inr (inr (inl e))) = ap (leaves path) e ∙ ap (At path) (fold_term-Mul node_leaves l r)
-leaves-both path t l r (inr (inr (inr e))) = ap (leaves path) e ∙ ap (At path) (fold_term-Div node_leaves l r)
+leaves-both path t l r (inl e) = ap (leaves path) e ∙ leaves_binary path Binary.Sum l r
+leaves-both path t l r (inr (inl e)) = ap (leaves path) e ∙ leaves_binary path Binary.Difference l r
+leaves-both path t l r (inr (inr (inl e))) = ap (leaves path) e ∙ leaves_binary path Binary.Product l r
+leaves-both path t l r (inr (inr (inr e))) = ap (leaves path) e ∙ leaves_binary path Binary.Quotient l r

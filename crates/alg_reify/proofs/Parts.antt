@@ -2,7 +2,7 @@
 use Rattle.std.specs.Prelude.{◌≡◌, ℕ, ◌≤◌, ℤ, pos, ◌≤ℤ◌, List, [], ◌∷◌, ◌++◌, All, Contains}
 use Rattle.std.specs.Int.RustNames.{unsigned_abs}
 use Rattle.std.proofs.lemmas.Int.{ints}
-use Rattle.std.proofs.Common.{refl, sym, ap, subst, ◌∙◌, inl, inr, arith}
+use Rattle.std.proofs.Common.{refl, sym, ap, subst, ◌∙◌, arith}
 use Rattle.std.proofs.lemmas.List.Elements.{recursion_from_All, All-from_recursion, All-head}
 use Rattle.alg_terms.specs.declared.term.Atom.{Atom}
 use Rattle.alg_terms.specs.declared.term.Term.{Term}
@@ -10,7 +10,8 @@ use Rattle.alg_terms.specs.declared.term.Term.TheVariants.{Var, Int, Neg, Add, S
 use Rattle.alg_terms.specs.Limits.{MAX_LITERAL}
 use Rattle.alg_terms.specs.Nodes.{EachNode}
 use Rattle.alg_terms.specs.TermRules.{HasLiteral, IsNoQuotient, HasNoQuotient}
-use Rattle.alg_terms.proofs.BuiltNodes.{EachNode-Neg, EachNode-Add, EachNode-Sub, EachNode-Mul, EachNode-Div, EachNode-Pow, EachNode-Hom}
+use Rattle.alg_terms.proofs.BuiltNodes.{EachNode-Neg, EachNode-Div, EachNode-Pow, EachNode-Hom}
+use Rattle.alg_terms.proofs.Views.{Binary, binary, nodes_binary}
 use Rattle.alg_mono.specs.Outcomes.{Outcome, first_breach, sum_outcome, product_outcome, power_outcome}
 use Rattle.alg_mono.specs.Polynomials.{MAX}
 use Rattle.alg_meaning.specs.PolynomialOf.{poly_of}
@@ -19,7 +20,7 @@ use Rattle.alg_meaning.proofs.Built.{term_outcome-Neg, term_outcome-Add, term_ou
 use Rattle.alg_reify.specs.Table.{leaves}
 use Rattle.alg_reify.specs.Making.{IsOver}
 use Rattle.alg_reify.proofs.AtomsIn.{both_parts}
-use Rattle.alg_reify.proofs.Leaves.{leaves-both, leaves-Var, leaves-Neg, leaves-Pow, leaves-Hom}
+use Rattle.alg_reify.proofs.Leaves.{leaves_binary, leaves-Var, leaves-Neg, leaves-Pow, leaves-Hom}
 
 -- a term of one part, which stands under the path `inner`: the part is made first, and then what is the node's own
 pub record HasPart (t part : Term) (path inner : List ℕ) (own : Outcome) : Type 0 where
@@ -78,37 +79,28 @@ part-Hom path f t s part e p =
 at_parts : (node : Term → Term → Term) (t a b l r : Term) → t ≡ node a b → l ≡ a → r ≡ b → node l r ≡ t
 at_parts node t a b l r e p q = sym (e ∙ (λ i. node (sym p i) (sym q i)))
 
--- the nodes with two parts
-pub parts-Add : (t a b l r : Term) → t ≡ Add a b → l ≡ a → r ≡ b → HasParts t l r (sum_outcome (poly_of l) (poly_of r))
-parts-Add t a b l r e p q =
-    let P : Term → Type 0 = λ x. HasParts x l r (sum_outcome (poly_of l) (poly_of r)) in
-    subst P (at_parts Add t a b l r e p q) record {
-      literals = λ h. let k = (EachNode-Add HasLiteral l r).0 h in (k.1, k.2);
-      plain = λ h. let k = (EachNode-Add IsNoQuotient l r).0 h in (k.1, k.2);
-      leaves = λ path. leaves-both path (Add l r) l r (inl refl);
-      outcome = term_outcome-Add l r;
+-- an operation on two parts, where this is what its outcome comes to
+parts_of : (o : Binary) (t a b l r : Term) (own : Outcome) → t ≡ binary o a b → l ≡ a → r ≡ b →
+    term_outcome (binary o l r) ≡ first_breach (term_outcome l) (first_breach (term_outcome r) own) → HasParts t l r own
+parts_of o t a b l r own e p q outcome =
+    let P : Term → Type 0 = λ x. HasParts x l r own in
+    subst P (at_parts (binary o) t a b l r e p q) record {
+      literals = λ h. let k = (nodes_binary HasLiteral o l r).0 h in (k.1, k.2);
+      plain = λ h. let k = (nodes_binary IsNoQuotient o l r).0 h in (k.1, k.2);
+      leaves = λ path. leaves_binary path o l r;
+      outcome = outcome;
     }
 
+-- a sum, a difference and a product
+pub parts-Add : (t a b l r : Term) → t ≡ Add a b → l ≡ a → r ≡ b → HasParts t l r (sum_outcome (poly_of l) (poly_of r))
+parts-Add t a b l r e p q = parts_of Binary.Sum t a b l r _ e p q (term_outcome-Add l r)
+
 pub parts-Sub : (t a b l r : Term) → t ≡ Sub a b → l ≡ a → r ≡ b → HasParts t l r (sum_outcome (poly_of l) (poly_of r))
-parts-Sub t a b l r e p q =
-    let P : Term → Type 0 = λ x. HasParts x l r (sum_outcome (poly_of l) (poly_of r)) in
-    subst P (at_parts Sub t a b l r e p q) record {
-      literals = λ h. let k = (EachNode-Sub HasLiteral l r).0 h in (k.1, k.2);
-      plain = λ h. let k = (EachNode-Sub IsNoQuotient l r).0 h in (k.1, k.2);
-      leaves = λ path. leaves-both path (Sub l r) l r (inr (inl refl));
-      outcome = term_outcome-Sub l r;
-    }
+parts-Sub t a b l r e p q = parts_of Binary.Difference t a b l r _ e p q (term_outcome-Sub l r)
 
 pub parts-Mul : (t a b l r : Term) → t ≡ Mul a b → l ≡ a → r ≡ b →
     HasParts t l r (product_outcome (poly_of l ∷ poly_of r ∷ []))
-parts-Mul t a b l r e p q =
-    let P : Term → Type 0 = λ x. HasParts x l r (product_outcome (poly_of l ∷ poly_of r ∷ [])) in
-    subst P (at_parts Mul t a b l r e p q) record {
-      literals = λ h. let k = (EachNode-Mul HasLiteral l r).0 h in (k.1, k.2);
-      plain = λ h. let k = (EachNode-Mul IsNoQuotient l r).0 h in (k.1, k.2);
-      leaves = λ path. leaves-both path (Mul l r) l r (inr (inr (inl refl)));
-      outcome = term_outcome-Mul l r;
-    }
+parts-Mul t a b l r e p q = parts_of Binary.Product t a b l r _ e p q (term_outcome-Mul l r)
 
 -- ---- what is asked of a term is so of its parts
 pub over_part : (atoms : List Atom) (path inner : List ℕ) (t part : Term) (own : Outcome) →

@@ -33,23 +33,25 @@ pub data Binary : Type 0 where
   Product : Binary
   Quotient : Binary
 
--- the terms that they make
+-- the term that is a leaf
 abbrev pub leaf : Leaf → Term
 leaf (Leaf.Variable k) = Var k
 leaf (Leaf.Literal n) = Int n
 
+-- the term that is an operation on one part
 abbrev pub unary : Unary → Term → Term
 unary Unary.Opposite t = Neg t
 unary (Unary.Power n) t = Pow t n
 unary (Unary.Image f) t = Hom f t
 
+-- the term that is an operation on two parts
 abbrev pub binary : Binary → Term → Term → Term
 binary Binary.Sum t u = Add t u
 binary Binary.Difference t u = Sub t u
 binary Binary.Product t u = Mul t u
 binary Binary.Quotient t u = Div t u
 
--- and their nodes
+-- the node of each of these, with something in the place of each part
 abbrev pub leaf_node : {A : Type 0} → Leaf → Term-F A
 leaf_node (Leaf.Variable k) = Term-F.Var k
 leaf_node (Leaf.Literal n) = Term-F.Int n

@@ -2,7 +2,7 @@
 use Rattle.std.proofs.Common.{◌≡◌, ◌<◌, ℕ, List, [], ◌∷◌, length, Option, None, Some, sym, ap, ◌∙◌, subst, arith}
 use Rattle.std.specs.Prelude.{All, IfSome}
 use Rattle.std.specs.Option.{option_or}
-use Rattle.std.proofs.lemmas.List.Elements.{All-head, All-tail, All-cons, All-nil, All-weaker}
+use Rattle.std.proofs.lemmas.List.Elements.{All-head, All-tail, All-nil, All-weaker}
 use Rattle.alg_terms.specs.declared.file.File.{File}
 use Rattle.alg_terms.specs.declared.goals.Equation.{Equation}
 use Rattle.alg_terms.specs.declared.goals.Goal.{Goal}
@@ -11,14 +11,16 @@ use Rattle.alg_terms.specs.declared.goals.Method.{Method}
 use Rattle.alg_terms.specs.declared.goals.Method.TheVariants.{ByRing, ByField, ByNsatz}
 use Rattle.alg_terms.specs.declared.goals.Use.{Use}
 use Rattle.alg_terms.specs.declared.term.Term.{Term, more_of-Term, Var, Int, Neg', Add', Sub', Mul', Div', Pow', Hom'}
+use Rattle.alg_terms.specs.declared.term.Term.TheOpen.{Term-F}
 use Rattle.alg_terms.specs.GoalRules.{IsEquation, IsHyp, IsUse, MayBeBy, IsGoal}
 use Rattle.alg_terms.specs.Kinds.{IsDomain, IsField}
 use Rattle.alg_terms.specs.Members.{kind_of, source_of, hyp_at, no_hyp, no_hom, no_var}
 use Rattle.alg_terms.specs.Nodes.{fold_term, EachNode}
-use Rattle.alg_terms.specs.Sorts.{own_sort, equation_sort, EachNodeAt, Leads, hyp_sort}
+use Rattle.alg_terms.specs.Sorts.{own_sort, equation_sort, Leads, hyp_sort}
 use Rattle.alg_terms.specs.TermRules.{IsInRange, HasFieldQuotients, DividesInFields}
 use Rattle.alg_terms.specs.Valid.{IsValid, IsHom, IsVar}
 use Rattle.alg_typing.proofs.Growing.{Grows, kind_same, source_same, target_same, field_same, field_targets, agree_same}
+use Rattle.alg_typing.proofs.OtherFiles.{nodes_go_over}
 use Rattle.alg_typing.proofs.GrowingTerms.{or_same, own_same, term_same}
 
 -- an own sort that is there is one of the file
@@ -74,34 +76,23 @@ module _ (old new : File) (grows : Grows old new) (valid : IsValid old) where
   hyp_same hyp h = record { equation = equation_same hyp.equation h.equation; divides_nowhere = h.divides_nowhere }
 
   -- quotients of fields are so still
-  quotients : (t : Term) (s : ℕ) (above : List ℕ) → s < length old.sorts → EachNode (IsInRange old) t →
-      All (λ f. f < length old.homs) above → EachNodeAt old (DividesInFields old) s above t →
-      EachNodeAt new (DividesInFields new) s above t
-  unfolding EachNode EachNodeAt
-  quotients (Var k) s above low r up h = tt
-  quotients (Int n) s above low r up h = tt
-  quotients (Neg' _ (more_of-Term t _)) s above low r up h = (tt, quotients t s above low r.1 up h.1)
-  quotients (Add' _ (more_of-Term t _) _ (more_of-Term u _)) s above low r up h =
-      (tt, quotients t s above low r.1 up h.1, quotients u s above low r.2 up h.2)
-  quotients (Sub' _ (more_of-Term t _) _ (more_of-Term u _)) s above low r up h =
-      (tt, quotients t s above low r.1 up h.1, quotients u s above low r.2 up h.2)
-  quotients (Mul' _ (more_of-Term t _) _ (more_of-Term u _)) s above low r up h =
-      (tt, quotients t s above low r.1 up h.1, quotients u s above low r.2 up h.2)
-  quotients (Div' _ (more_of-Term t _) _ (more_of-Term u _)) s above low r up h = (
-    (field_same old new grows s low h.0.0, field_targets old new grows valid.homs above up h.0.1),
-    quotients t s above low r.1 up h.1,
-    quotients u s above low r.2 up h.2,
-  )
-  quotients (Pow' _ (more_of-Term t _) n) s above low r up h = (tt, quotients t s above low r.1 up h.1)
-  quotients (Hom' f _ (more_of-Term t _)) s above low r up h =
-      let below = quotients t (source_of old f) (f ∷ above) (valid.homs f no_hom r.0).source r.1
-      (All-cons (λ g. g < length old.homs) f above r.0 up) h.1 in
-      let P : ℕ → Type 0 = λ source. EachNodeAt new (DividesInFields new) source (f ∷ above) t in
-      (tt, subst P (sym (source_same old new grows f r.0)) below)
+  field_node : (s : ℕ) (above : List ℕ) (n : Term-F Term) → s < length old.sorts →
+      All (λ f. f < length old.homs) above → DividesInFields old s above n → DividesInFields new s above n
+  field_node s above (Term-F.Div t u) low up h =
+      (field_same old new grows s low h.0, field_targets old new grows valid.homs above up h.1)
+  field_node s above _ low up h = tt
+
+  known : (f : ℕ) (t : Term) → IsInRange old (Term-F.Hom f t) →
+      (f < length old.homs) × (source_of new f < length old.sorts) × (source_of new f ≡ source_of old f)
+  known f t r =
+      let same = source_same old new grows f r in
+      (r, subst (λ s. s < length old.sorts) (sym same) (valid.homs f no_hom r).source, same)
 
   field_quotients : (t : Term) (s : ℕ) → s < length old.sorts → EachNode (IsInRange old) t → HasFieldQuotients old s t →
       HasFieldQuotients new s t
-  field_quotients t s low r h = quotients t s [] low r (All-nil (λ f. f < length old.homs)) h
+  field_quotients t s low r h =
+      nodes_go_over old new (IsInRange old) (λ s. s < length old.sorts) (λ f. f < length old.homs) known
+      (DividesInFields old) (DividesInFields new) field_node t s [] low (All-nil (λ f. f < length old.homs)) r h
 
   -- a path leads where it led
   leads_same : (path : List ℕ) (from to : ℕ) → All (λ f. f < length old.homs) path → Leads old path from to →

@@ -32,6 +32,7 @@ pub mod SortedTerms
 pub mod Tables
 pub mod VarTables
 pub mod OneReading
+pub mod OtherFiles
 pub mod FirstFaults
 pub mod ReadingSteps
 pub mod RoomForStatements

@@ -88,11 +88,14 @@ module _ (file : File) (text : List ℕ) where
   rules_kept b head (Neg' _ (more_of-RawTerm k t _)) final in_fields h =
       let (e, p, a) = rules_kept b k t final in_fields h in ((tt, e), (tt, p), (tt, a))
   rules_kept b head (Add' _ (more_of-RawTerm k t _) _ (more_of-RawTerm l u _)) final in_fields h =
-      operator_kept b head k l t u final in_fields h (rules_kept b k t final in_fields) (rules_kept b l u final in_fields)
+      operator_kept b head k l t u final in_fields h (rules_kept b k t final in_fields)
+      (rules_kept b l u final in_fields)
   rules_kept b head (Sub' _ (more_of-RawTerm k t _) _ (more_of-RawTerm l u _)) final in_fields h =
-      operator_kept b head k l t u final in_fields h (rules_kept b k t final in_fields) (rules_kept b l u final in_fields)
+      operator_kept b head k l t u final in_fields h (rules_kept b k t final in_fields)
+      (rules_kept b l u final in_fields)
   rules_kept b head (Mul' _ (more_of-RawTerm k t _) _ (more_of-RawTerm l u _)) final in_fields h =
-      operator_kept b head k l t u final in_fields h (rules_kept b k t final in_fields) (rules_kept b l u final in_fields)
+      operator_kept b head k l t u final in_fields h (rules_kept b k t final in_fields)
+      (rules_kept b l u final in_fields)
   rules_kept b head (Div' _ (more_of-RawTerm k t _) _ (more_of-RawTerm l u _)) final in_fields h =
       operator_kept b head k l t u final in_fields (parts_empty _ _ h).1 (rules_kept b k t final in_fields)
       (rules_kept b l u final in_fields)

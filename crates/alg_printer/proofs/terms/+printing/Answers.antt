@@ -1,11 +1,12 @@
 use Rattle.std.proofs.Common.{rules, SFits, to_z-of_z, ◌++◌, codes, sym, ap, ◌∙◌}
 use mir.Syntax.{w128}
 use Rattle.alg_terms.specs.declared.term.Term.TheViews.{the_lemmas}
+use Rattle.alg_terms.proofs.Views.{Unary, Binary}
 use Rattle.alg_printer.specs.Names.{hom_name}
 use Rattle.alg_printer.specs.Terms.{term_text}
-use Rattle.alg_printer.proofs.Named.{named-Var, named-Neg, named-Pow, named-Hom, named-Hom-part, named-Add-left, named-Add-right, named-Sub-left, named-Sub-right, named-Mul-left, named-Mul-right, named-Div-left, named-Div-right}
+use Rattle.alg_printer.proofs.Named.{named-Var, named-Hom, named_part, named_left, named_right}
 use Rattle.alg_printer.proofs.Pieces.{on_ok, in_front, more, grew}
-use Rattle.alg_printer.proofs.TermTexts.{text-Var, text-Int, text-Neg, text-Pow, text-Hom, text-Add, text-Sub, text-Mul, text-Div}
+use Rattle.alg_printer.proofs.TermTexts.{text-Var, text-Int, text-Neg, text-Pow, text-Hom, text_binary}
 use Rattle.alg_printer.proofs.terms.+printing.Goals as goal
 
 -- what is printed is of the file
@@ -17,47 +18,67 @@ put_term-put_morphism-requires t c = named-Hom c.args.file.now _ _ _ c.in-Hom.is
 
 pub put_term-put_part-requires : goal.put_term-put_part-requires
 put_term-put_part-requires t c =
-    (search (rules, the_lemmas), named-Neg c.args.file.now _ _ _ c.in-Neg.is c.get.ensures c.requires)
+    (search (rules, the_lemmas), named_part Unary.Opposite c.args.file.now _ _ _ c.in-Neg.is c.get.ensures c.requires)
 
 pub put_term-put_part-requires-in-Pow : goal.put_term-put_part-requires-in-Pow
-put_term-put_part-requires-in-Pow t c =
-    (search (rules, the_lemmas), named-Pow c.args.file.now _ _ _ _ c.in-Pow.is c.get-in-Pow.ensures c.requires)
+put_term-put_part-requires-in-Pow t c = (
+  search (rules, the_lemmas),
+  named_part (Unary.Power _) c.args.file.now _ _ _ c.in-Pow.is c.get-in-Pow.ensures c.requires,
+)
 
 pub put_term-put_term-requires : goal.put_term-put_term-requires
-put_term-put_term-requires t c =
-    (search (rules, the_lemmas), named-Hom-part c.args.file.now _ _ _ _ c.in-Hom.is c.get-in-Hom.ensures c.requires)
+put_term-put_term-requires t c = (
+  search (rules, the_lemmas),
+  named_part (Unary.Image _) c.args.file.now _ _ _ c.in-Hom.is c.get-in-Hom.ensures c.requires,
+)
 
 pub put_term-put_part-requires-in-Add : goal.put_term-put_part-requires-in-Add
-put_term-put_part-requires-in-Add t c =
-    (search (rules, the_lemmas), named-Add-left c.args.file.now _ _ _ _ c.in-Add.is c.get-in-Add.ensures c.requires)
+put_term-put_part-requires-in-Add t c = (
+  search (rules, the_lemmas),
+  named_left Binary.Sum c.args.file.now _ _ _ _ c.in-Add.is c.get-in-Add.ensures c.requires,
+)
 
 pub put_term-put_part-requires-in-Add-2 : goal.put_term-put_part-requires-in-Add-2
-put_term-put_part-requires-in-Add-2 t c =
-    (search (rules, the_lemmas), named-Add-right c.args.file.now _ _ _ _ c.in-Add.is c.get-in-Add-2.ensures c.requires)
+put_term-put_part-requires-in-Add-2 t c = (
+  search (rules, the_lemmas),
+  named_right Binary.Sum c.args.file.now _ _ _ _ c.in-Add.is c.get-in-Add-2.ensures c.requires,
+)
 
 pub put_term-put_part-requires-in-Sub : goal.put_term-put_part-requires-in-Sub
-put_term-put_part-requires-in-Sub t c =
-    (search (rules, the_lemmas), named-Sub-left c.args.file.now _ _ _ _ c.in-Sub.is c.get-in-Sub.ensures c.requires)
+put_term-put_part-requires-in-Sub t c = (
+  search (rules, the_lemmas),
+  named_left Binary.Difference c.args.file.now _ _ _ _ c.in-Sub.is c.get-in-Sub.ensures c.requires,
+)
 
 pub put_term-put_part-requires-in-Sub-2 : goal.put_term-put_part-requires-in-Sub-2
-put_term-put_part-requires-in-Sub-2 t c =
-    (search (rules, the_lemmas), named-Sub-right c.args.file.now _ _ _ _ c.in-Sub.is c.get-in-Sub-2.ensures c.requires)
+put_term-put_part-requires-in-Sub-2 t c = (
+  search (rules, the_lemmas),
+  named_right Binary.Difference c.args.file.now _ _ _ _ c.in-Sub.is c.get-in-Sub-2.ensures c.requires,
+)
 
 pub put_term-put_part-requires-in-Mul : goal.put_term-put_part-requires-in-Mul
-put_term-put_part-requires-in-Mul t c =
-    (search (rules, the_lemmas), named-Mul-left c.args.file.now _ _ _ _ c.in-Mul.is c.get-in-Mul.ensures c.requires)
+put_term-put_part-requires-in-Mul t c = (
+  search (rules, the_lemmas),
+  named_left Binary.Product c.args.file.now _ _ _ _ c.in-Mul.is c.get-in-Mul.ensures c.requires,
+)
 
 pub put_term-put_part-requires-in-Mul-2 : goal.put_term-put_part-requires-in-Mul-2
-put_term-put_part-requires-in-Mul-2 t c =
-    (search (rules, the_lemmas), named-Mul-right c.args.file.now _ _ _ _ c.in-Mul.is c.get-in-Mul-2.ensures c.requires)
+put_term-put_part-requires-in-Mul-2 t c = (
+  search (rules, the_lemmas),
+  named_right Binary.Product c.args.file.now _ _ _ _ c.in-Mul.is c.get-in-Mul-2.ensures c.requires,
+)
 
 pub put_term-put_part-requires-in-Div : goal.put_term-put_part-requires-in-Div
-put_term-put_part-requires-in-Div t c =
-    (search (rules, the_lemmas), named-Div-left c.args.file.now _ _ _ _ c.in-Div.is c.get-in-Div.ensures c.requires)
+put_term-put_part-requires-in-Div t c = (
+  search (rules, the_lemmas),
+  named_left Binary.Quotient c.args.file.now _ _ _ _ c.in-Div.is c.get-in-Div.ensures c.requires,
+)
 
 pub put_term-put_part-requires-in-Div-2 : goal.put_term-put_part-requires-in-Div-2
-put_term-put_part-requires-in-Div-2 t c =
-    (search (rules, the_lemmas), named-Div-right c.args.file.now _ _ _ _ c.in-Div.is c.get-in-Div-2.ensures c.requires)
+put_term-put_part-requires-in-Div-2 t c = (
+  search (rules, the_lemmas),
+  named_right Binary.Quotient c.args.file.now _ _ _ _ c.in-Div.is c.get-in-Div-2.ensures c.requires,
+)
 
 -- the text grew by that of the node
 pub put_term-returns-in-Var : goal.put_term-returns-in-Var
@@ -95,23 +116,23 @@ put_term-returns-in_ok-put_term-in-Hom t c =
 pub put_term-returns-in_ok-put-in-Add : goal.put_term-returns-in_ok-put-in-Add
 put_term-returns-in_ok-put-in-Add t c =
     grew c.put_part-in-Add-2.result _ _ _ _ _ _
-    (text-Add c.args.file.now _ _ _ _ _ c.in-Add.is c.get-in-Add.ensures c.get-in-Add-2.ensures)
+    (text_binary Binary.Sum c.args.file.now _ _ _ _ _ c.in-Add.is c.get-in-Add.ensures c.get-in-Add-2.ensures)
     (more _ _ _ _ _ c.in_ok-put_part-in-Add.ensures c.in_ok-put-in-Add.ensures) c.put_part-in-Add-2.ensures
 
 pub put_term-returns-in_ok-put-in-Sub : goal.put_term-returns-in_ok-put-in-Sub
 put_term-returns-in_ok-put-in-Sub t c =
     grew c.put_part-in-Sub-2.result _ _ _ _ _ _
-    (text-Sub c.args.file.now _ _ _ _ _ c.in-Sub.is c.get-in-Sub.ensures c.get-in-Sub-2.ensures)
+    (text_binary Binary.Difference c.args.file.now _ _ _ _ _ c.in-Sub.is c.get-in-Sub.ensures c.get-in-Sub-2.ensures)
     (more _ _ _ _ _ c.in_ok-put_part-in-Sub.ensures c.in_ok-put-in-Sub.ensures) c.put_part-in-Sub-2.ensures
 
 pub put_term-returns-in_ok-put-in-Mul : goal.put_term-returns-in_ok-put-in-Mul
 put_term-returns-in_ok-put-in-Mul t c =
     grew c.put_part-in-Mul-2.result _ _ _ _ _ _
-    (text-Mul c.args.file.now _ _ _ _ _ c.in-Mul.is c.get-in-Mul.ensures c.get-in-Mul-2.ensures)
+    (text_binary Binary.Product c.args.file.now _ _ _ _ _ c.in-Mul.is c.get-in-Mul.ensures c.get-in-Mul-2.ensures)
     (more _ _ _ _ _ c.in_ok-put_part-in-Mul.ensures c.in_ok-put-in-Mul.ensures) c.put_part-in-Mul-2.ensures
 
 pub put_term-returns-in_ok-put-in-Div : goal.put_term-returns-in_ok-put-in-Div
 put_term-returns-in_ok-put-in-Div t c =
     grew c.put_part-in-Div-2.result _ _ _ _ _ _
-    (text-Div c.args.file.now _ _ _ _ _ c.in-Div.is c.get-in-Div.ensures c.get-in-Div-2.ensures)
+    (text_binary Binary.Quotient c.args.file.now _ _ _ _ _ c.in-Div.is c.get-in-Div.ensures c.get-in-Div-2.ensures)
     (more _ _ _ _ _ c.in_ok-put_part-in-Div.ensures c.in_ok-put-in-Div.ensures) c.put_part-in-Div-2.ensures
