@@ -5,3 +5,7 @@ pub mod Puts
 pub mod Places
 pub mod Measures
 pub mod Within
+pub mod Tests
+pub mod Multiplied
+pub mod Scaling
+pub mod MapRules

@@ -1,3 +1,5 @@
 pub mod Factors
 pub mod Lists
 pub mod Rules
+pub mod Constants
+pub mod Within

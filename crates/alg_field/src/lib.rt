@@ -3,7 +3,12 @@
 #![tactic(auto)]
 
 mod bounds;
+mod common;
+mod constants;
+mod factors;
 mod lists;
+mod multiply;
+mod rules;
 
 pub use alg_horner::HornerPoly;
 pub use alg_reify::{Mono, NoMemory, Stop};
