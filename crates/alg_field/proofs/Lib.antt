@@ -9,3 +9,5 @@ pub mod Tests
 pub mod Multiplied
 pub mod Scaling
 pub mod MapRules
+pub mod Giving
+pub mod Units

@@ -1,15 +1,17 @@
 -- Maps of factors by their lists: their products, and which rules they break.
 use Rattle.std.specs.Prelude.{◌≡◌, ℕ, ◌+◌, ◌*◌, ◌^◌, ◌≤◌, ◌||◌, cond, List, [], ◌∷◌, ◌++◌}
-use Rattle.std.proofs.Common.{refl, sym, ap, ◌∙◌, arith}
+use Rattle.std.proofs.Common.{refl, sym, ap, ◌∙◌, arith, append-nil}
 use Rattle.std.proofs.lemmas.List.Sums.{sum_by-cons}
 use Rattle.std.specs.Cmp.{nat_cmp_total}
 use Rattle.std.specs.FinMap.{nat_cmp-IsAntisymmetric}
-use Rattle.alg_mono.specs.FiniteMaps.{Each}
+use Rattle.alg_mono.specs.FiniteMaps.{Each, IsCanonical, collect}
+use Rattle.alg_mono.proofs.Canonical.{collect-canonical}
 use Rattle.alg_mono.specs.Monomials.{scaled}
 use Rattle.alg_mono.specs.NumberedPolynomials.{Polynomial}
 use Rattle.alg_mono.specs.Numbers.{exponents}
 use Rattle.alg_mono.specs.Outcomes.{Outcome, outcome, is_nothing}
 use Rattle.alg_mono.specs.Polynomials.{norm, poly_degree}
+use Rattle.alg_mono.proofs.Numbers.{exponent_laws}
 use Rattle.alg_mono.proofs.Each.{Each-append, Each-collect}
 use Rattle.alg_mono.proofs.Lcm.{Each-scaled}
 use Rattle.alg_mono.proofs.Outcomes.{says_at}
@@ -20,6 +22,7 @@ use Rattle.alg_field.specs.Factors.{FactorMap, order, exponent_of, times_map, po
 use Rattle.alg_field.specs.Lists.{map_of, IsFactor, IsList, MAX_POWER}
 use Rattle.alg_field.specs.Rules.{norms, degrees}
 use Rattle.alg_field.proofs.Measures.{each_factor, each_some, norms-append, degrees-append, norms-scaled, degrees-scaled, norms-map_of, degrees-map_of, zero-map_of, below_is}
+use Rattle.alg_field.proofs.Order.{order_total, order_anti}
 use Rattle.alg_field.proofs.Within.{exponent_within}
 
 -- the product of a map is that of its list
@@ -84,3 +87,7 @@ power_within n a h fine q =
     let within = exponent_within q (scaled n a) (Each-scaled IsFactor n a (each_factor a h))
     (omega (arith, norms-scaled n a, light)) (omega (arith, degrees-scaled n a, low)) in
     omega (arith, exponent-scaled order q n a, within)
+
+-- no more factors
+pub times_none : (m : FactorMap) → IsCanonical order exponents m → times_map m [] ≡ m
+times_none m h = ap (λ es. collect order exponents es) (append-nil m) ∙ collect-canonical exponent_laws order_total order_anti m h

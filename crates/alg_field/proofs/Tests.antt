@@ -76,7 +76,7 @@ number_test p (Some c) d h some =
     (λ e. (Decides-int_eq c d).1 (number_from c d (is_zero c) (sym h ∙ only_equal order_anti p (([], d) ∷ []) e)))
 
 -- what isn't 0 has a norm
-some_number : (c : ℤ) → T (not (is_zero c)) → 0 < unsigned_abs c
+pub some_number : (c : ℤ) → T (not (is_zero c)) → 0 < unsigned_abs c
 some_number (pos zero) h = absurd h
 some_number (pos (suc n)) h = omega arith
 some_number (negsuc n) h = omega arith

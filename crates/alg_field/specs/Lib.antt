@@ -3,3 +3,4 @@ pub mod Lists
 pub mod Rules
 pub mod Constants
 pub mod Within
+pub mod Fractions

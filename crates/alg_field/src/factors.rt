@@ -1,10 +1,12 @@
 //! Products of powers of polynomials.
 
 ghost use Rattle.std.specs.Prelude.{◌≡◌, [], ◌∷◌, IfOk};
+ghost use Rattle.alg_mono.specs.FiniteMaps.{IsCanonical};
 ghost use Rattle.alg_mono.specs.NumberedPolynomials.{product_of};
+ghost use Rattle.alg_mono.specs.Numbers.{exponents};
 ghost use Rattle.alg_mono.specs.Outcomes.{Outcome};
 ghost use Rattle.alg_meaning.specs.FractionRules.{over_outcome, below_outcome};
-ghost use Rattle.alg_field.specs.Factors.{lacks, times_map, power_map, product};
+ghost use Rattle.alg_field.specs.Factors.{order, lacks, times_map, power_map, product};
 ghost use Rattle.alg_field.specs.Lists.{IsFactor};
 ghost use Rattle.alg_field.specs.Rules.{outcome_of};
 
@@ -71,7 +73,8 @@ impl Factors {
 
     /// Which rule the factors break whose exponents are those of both added up.
     pub(crate) fn rule_with(&self, other: &Factors) -> Rule
-        ensures { outcome_of result ≡ below_outcome (times_map self.now other.now) }
+        ensures rule { outcome_of result ≡ below_outcome (times_map self.now other.now) }
+        ensures canonical { IsCanonical order exponents self.now }
     {
         joined_rule(&self.list, &other.list)
     }

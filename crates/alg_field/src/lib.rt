@@ -6,6 +6,7 @@ mod bounds;
 mod common;
 mod constants;
 mod factors;
+mod fraction;
 mod lists;
 mod multiply;
 mod rules;
