@@ -11,3 +11,6 @@ pub mod Scaling
 pub mod MapRules
 pub mod Giving
 pub mod Units
+pub mod EachOnce
+pub mod Operations
+pub mod TermParts

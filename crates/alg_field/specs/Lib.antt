@@ -4,3 +4,6 @@ pub mod Rules
 pub mod Constants
 pub mod Within
 pub mod Fractions
+pub mod Ends
+pub mod Added
+pub mod Making

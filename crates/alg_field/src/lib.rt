@@ -4,10 +4,13 @@
 
 mod bounds;
 mod common;
+mod conditions;
 mod constants;
+mod ends;
 mod factors;
 mod fraction;
 mod lists;
+mod make;
 mod multiply;
 mod rules;
 
