@@ -14,3 +14,5 @@ pub mod Units
 pub mod EachOnce
 pub mod Operations
 pub mod TermParts
+pub mod TermMade
+pub mod TermLeaves

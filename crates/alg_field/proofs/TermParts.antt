@@ -153,7 +153,7 @@ module _ (atoms : List Atom) (path : List ℕ) (l r : Term) where
   unit_is : IsHeld atoms path r → is_unit (frac r).top ≡ over.is_unit nat_cmp R.top
   unit_is h = (fractions_under_paths.tests atoms path r h).unit ∙ ap (over.is_unit nat_cmp) top_is
 
-  sum_parts : HasTwo atoms path (Add l r) l r Operation.Sum
+  pub sum_parts : HasTwo atoms path (Add l r) l r Operation.Sum
   sum_parts = record {
     literals = λ h. let k = (EachNode-Add HasLiteral l r).0 h in (k.1, k.2);
     fraction = λ h g. ap (numbered_frac_along atoms path) (fold_term-Add node_frac l r)
@@ -164,7 +164,7 @@ module _ (atoms : List Atom) (path : List ℕ) (l r : Term) where
     conditions = λ g. joined_conditions (Add l r) (denominators-Add l r);
   }
 
-  difference_parts : HasTwo atoms path (Sub l r) l r Operation.Difference
+  pub difference_parts : HasTwo atoms path (Sub l r) l r Operation.Difference
   difference_parts = record {
     literals = λ h. let k = (EachNode-Sub HasLiteral l r).0 h in (k.1, k.2);
     fraction = λ h g. ap (numbered_frac_along atoms path) (fold_term-Sub node_frac l r)
@@ -175,7 +175,7 @@ module _ (atoms : List Atom) (path : List ℕ) (l r : Term) where
     conditions = λ g. joined_conditions (Sub l r) (denominators-Sub l r);
   }
 
-  product_parts : HasTwo atoms path (Mul l r) l r Operation.Product
+  pub product_parts : HasTwo atoms path (Mul l r) l r Operation.Product
   product_parts = record {
     literals = λ h. let k = (EachNode-Mul HasLiteral l r).0 h in (k.1, k.2);
     fraction = λ h g. ap (numbered_frac_along atoms path) (fold_term-Mul node_frac l r)
@@ -186,7 +186,7 @@ module _ (atoms : List Atom) (path : List ℕ) (l r : Term) where
     conditions = λ g. joined_conditions (Mul l r) (denominators-Mul l r);
   }
 
-  quotient_parts : HasTwo atoms path (Div l r) l r (Operation.Quotient r)
+  pub quotient_parts : HasTwo atoms path (Div l r) l r (Operation.Quotient r)
   quotient_parts = record {
     literals = λ h. let k = (EachNode-Div HasLiteral l r).0 h in (k.1, k.2);
     fraction = λ h g. ap (numbered_frac_along atoms path) (fold_term-Div node_frac l r)
