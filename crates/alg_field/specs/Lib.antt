@@ -7,3 +7,4 @@ pub mod Fractions
 pub mod Ends
 pub mod Added
 pub mod Making
+pub mod Answers

@@ -1,13 +1,14 @@
 //! Fractions: polynomials over products of factors.
 
-ghost use Rattle.std.specs.Prelude.{◌≡◌, ◌∷◌, ◌++◌, [], IfOk, true, false};
+ghost use Rattle.std.specs.Prelude.{◌≡◌, ◌∷◌, ◌++◌, [], IfOk, IfErr, true, false};
 ghost use Rattle.std.specs.Ordering.{nat_cmp};
 ghost use Rattle.alg_mono.specs.FiniteMaps.{IsCanonical};
 ghost use Rattle.alg_mono.specs.NumberedPolynomials.{Polynomial, sum_of, difference_of, product_of};
 ghost use Rattle.alg_mono.specs.Numbers.{exponents};
 ghost use Rattle.alg_mono.specs.Outcomes.{Outcome, is_nothing, first_breach, sum_outcome, product_outcome};
-ghost use Rattle.alg_meaning.specs.FractionRules.{worse, all_factors, over_outcome, below_outcome, sum_of_fractions, product_of_fractions, quotient_of_fractions, power_of_fraction};
-ghost use Rattle.alg_meaning.specs.FractionsOver.{is_unit, frac_opposite, frac_sum, frac_difference, frac_product, frac_quotient, frac_power};
+ghost use Rattle.alg_mono.specs.Refusals.{Tells};
+ghost use Rattle.alg_meaning.specs.FractionRules.{worse, all_factors, over_outcome, below_outcome, cleared_outcome, sum_of_fractions, product_of_fractions, quotient_of_fractions, power_of_fraction};
+ghost use Rattle.alg_meaning.specs.FractionsOver.{is_unit, cleared, frac_opposite, frac_sum, frac_difference, frac_product, frac_quotient, frac_power};
 ghost use Rattle.alg_field.specs.Factors.{order, times_map, product};
 ghost use Rattle.alg_field.specs.Fractions.{fraction_of, Gives, MakesFraction};
 
@@ -194,4 +195,21 @@ impl Fraction {
             }
         }
     }
+}
+
+/// The numerators of two fractions over their common factors.
+pub(crate) fn numerators(
+    alloc: Global,
+    left: Fraction,
+    right: Fraction,
+) -> Result<(HornerPoly, HornerPoly), Overrun>
+    ensures left { IfOk result (λ n. n.0 ≡ cleared nat_cmp (fraction_of left) (fraction_of right)) }
+    ensures right { IfOk result (λ n. n.1 ≡ cleared nat_cmp (fraction_of right) (fraction_of left)) }
+    ensures fine { IfOk result (λ n.
+        cleared_outcome nat_cmp (fraction_of left) (fraction_of right) ≡ Outcome.Fine) }
+    ensures refused { IfErr result (λ e.
+        Tells e (cleared_outcome nat_cmp (fraction_of left) (fraction_of right))) }
+{
+    let lacks = lacks_of(alloc, &left.below, &right.below)?;
+    cleared(alloc, left.top, right.top, &lacks)
 }

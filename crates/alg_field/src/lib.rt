@@ -6,6 +6,7 @@ mod bounds;
 mod common;
 mod conditions;
 mod constants;
+mod decide;
 mod ends;
 mod factors;
 mod fraction;
@@ -16,3 +17,4 @@ mod rules;
 
 pub use alg_horner::HornerPoly;
 pub use alg_reify::{Mono, NoMemory, Stop};
+pub use decide::{FieldAnswer, FieldDecision, decide_field};
