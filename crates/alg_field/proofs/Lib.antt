@@ -16,3 +16,5 @@ pub mod Operations
 pub mod TermParts
 pub mod TermMade
 pub mod TermLeaves
+pub mod Sides
+pub mod Right

@@ -1,11 +1,11 @@
 -- The norms and degrees of all factors of a list.
-use Rattle.std.specs.Prelude.{◌≡◌, ℕ, zero, suc, ◌+◌, ◌*◌, ◌^◌, ◌<◌, ◌≤◌, Bool, true, false, cond, ◌||◌, List, [], ◌∷◌, ◌++◌, sum_by, length, drop}
+use Rattle.std.specs.Prelude.{◌≡◌, ℕ, zero, suc, ◌+◌, ◌*◌, ◌^◌, ◌<◌, ◌≤◌, false, cond, ◌||◌, [], ◌∷◌, ◌++◌, sum_by, length, drop}
 use Rattle.std.proofs.Common.{get_or, refl, sym, ap, subst, ◌∙◌, arith}
 use Rattle.std.proofs.Math.Nat.{mul_assoc, pow-zero, pow-succ', pow-le-pow_right}
 use Rattle.std.proofs.lemmas.Nat.{mul-le, mul-pow, pow-add}
 use Rattle.std.proofs.lemmas.List.Sums.{sum_by-cons}
 use Rattle.alg_mono.specs.FiniteMaps.{Each, total}
-use Rattle.alg_mono.specs.Outcomes.{Outcome, outcome, product_outcome, has_zero, norm_product, is_nothing}
+use Rattle.alg_mono.specs.Outcomes.{Outcome, outcome, has_zero, norm_product, is_nothing}
 use Rattle.alg_mono.specs.Polynomials.{PolyOver, norm, poly_degree}
 use Rattle.alg_mono.proofs.MergeTurns.{drop_at}
 use Rattle.alg_mono.proofs.Numbers.{exponent_laws, natural_sum}

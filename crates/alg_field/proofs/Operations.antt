@@ -1,5 +1,5 @@
 -- The operations of terms that code builds, and what they give.
-use Rattle.std.specs.Prelude.{◌≡◌, Bool, List, OnOk}
+use Rattle.std.specs.Prelude.{◌≡◌, OnOk}
 use Rattle.std.proofs.Common.{refl}
 use Rattle.std.specs.declared.result.Result.{Result}
 use Rattle.std.specs.declared.result.Result.TheVariants.{Ok, Err}

@@ -1,7 +1,6 @@
 -- A term whose fraction is made, and its parts.
 use Rattle.std.specs.Prelude.{◌≡◌, ℕ, Bool, cond, ◌||◌, ◌&&◌, List, [], ◌∷◌, ◌++◌, All, Contains}
-use Rattle.std.proofs.Common.{refl, sym, ap, subst, ◌∙◌, inl, inr}
-use Rattle.std.proofs.lemmas.List.Elements.{recursion_from_All, All-from_recursion}
+use Rattle.std.proofs.Common.{refl, sym, ap, subst, ◌∙◌}
 use Rattle.std.specs.Ordering.{nat_cmp}
 use Rattle.alg_terms.specs.declared.term.Atom.{Atom}
 use Rattle.alg_terms.specs.declared.term.Term.{Term}
@@ -11,25 +10,21 @@ use Rattle.alg_terms.specs.TermRules.{HasLiteral}
 use Rattle.alg_terms.proofs.Built.{fold_term-Neg, fold_term-Add, fold_term-Sub, fold_term-Mul, fold_term-Div, fold_term-Pow}
 use Rattle.alg_terms.proofs.BuiltNodes.{EachNode-Neg, EachNode-Add, EachNode-Sub, EachNode-Mul, EachNode-Div, EachNode-Pow, EachNode-Hom}
 use Rattle.alg_mono.specs.Outcomes.{is_nothing}
-use Rattle.alg_meaning.specs.Atoms.{atom_cmp}
 use Rattle.alg_meaning.specs.Conditions.{denominators, is_dropped}
 use Rattle.alg_meaning.specs.FractionOutcome.{FractionOutcome, first_not_fine, frac_outcome, of_polynomials}
-use Rattle.alg_meaning.specs.FractionRules.{power_of_fraction, quotient_of_fractions}
-use Rattle.alg_meaning.specs.Fractions.{node_frac, frac, is_unit, quotient}
+use Rattle.alg_meaning.specs.FractionRules.{power_of_fraction}
+use Rattle.alg_meaning.specs.Fractions.{node_frac, frac, is_unit}
 use Rattle.alg_meaning.specs.FractionsOver as over
 use Rattle.alg_meaning.specs.FractionsOver.{FractionOver, is_constant, frac_opposite, frac_power, frac_quotient}
 use Rattle.alg_meaning.proofs.Built.{denominators-Neg, denominators-Add, denominators-Sub, denominators-Mul, denominators-Div, denominators-Pow, denominators-Hom, frac_outcome-Neg, frac_outcome-Add, frac_outcome-Sub, frac_outcome-Mul, frac_outcome-Div, frac_outcome-Pow, frac_outcome-Hom}
 use Rattle.alg_reify.specs.FractionsUnder.{numbered_along, numbered_frac_along, made_fraction, IsHeld}
 use Rattle.alg_reify.specs.Numbered.{numbered}
 use Rattle.alg_reify.specs.NumberedFractions.{numbered_fraction}
-use Rattle.alg_reify.specs.Table.{leaves}
-use Rattle.alg_reify.proofs.AtomsIn.{both_parts}
 use Rattle.alg_reify.proofs.FractionsAlong.{top_along}
 use Rattle.alg_reify.proofs.FractionsUnder.{fractions_under_paths}
-use Rattle.alg_reify.proofs.Leaves.{leaves-both, leaves-Neg, leaves-Pow, leaves-Hom}
+use Rattle.alg_reify.proofs.Leaves.{leaves-Neg, leaves-Pow, leaves-Hom}
 use Rattle.alg_field.specs.Added.{drops, add_condition, add_conditions}
-use Rattle.alg_field.specs.Making.{Operation, operation, operated, operated_outcome, operated_conditions, HasParts}
-use Rattle.alg_field.proofs.Operations.{operation-Add, operation-Sub, operation-Mul, operation-Div}
+use Rattle.alg_field.specs.Making.{Operation, operated, operated_outcome, operated_conditions}
 
 -- a term of one part, which stands under the path `inner`
 pub record HasPart (atoms : List Atom) (path inner : List ℕ) (t part : Term) (node : FractionOver ℕ → FractionOver ℕ)
@@ -115,7 +110,7 @@ pub record HasTwo (atoms : List Atom) (path : List ℕ) (t l r : Term) (op : Ope
       ≡ operated_conditions char0 op (made_fraction atoms path r)
       (add_conditions char0 (add_conditions char0 seen (denominators l)) (denominators r))
 
-add_conditions-append : (char0 : Bool) (seen ts us : List Term) →
+pub add_conditions-append : (char0 : Bool) (seen ts us : List Term) →
     add_conditions char0 seen (ts ++ us) ≡ add_conditions char0 (add_conditions char0 seen ts) us
 add_conditions-append char0 seen [] us = refl
 add_conditions-append char0 seen (t ∷ ts) us =

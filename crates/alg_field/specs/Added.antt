@@ -1,5 +1,5 @@
 -- Conditions as they are added one by one.
-use Rattle.std.specs.Prelude.{ℕ, Bool, ◌||◌, ◌&&◌, cond, List, [], ◌∷◌, ◌++◌}
+use Rattle.std.specs.Prelude.{Bool, ◌||◌, ◌&&◌, cond, List, [], ◌∷◌, ◌++◌}
 use Rattle.std.specs.List.{list_any}
 use Rattle.std.specs.Ordering.{nat_cmp}
 use Rattle.alg_terms.specs.declared.term.Term.{Term}

@@ -1,19 +1,17 @@
 -- What an answer and a stop say.
-use Rattle.std.specs.Prelude.{◌≡◌, Bool, List, [], ◌++◌, Option, Some, None}
+use Rattle.std.specs.Prelude.{◌≡◌, List, Option, Some, None}
 use Rattle.std.specs.declared.result.Result.{Result}
 use Rattle.std.specs.declared.result.Result.TheVariants.{Ok, Err}
-use Rattle.alg_terms.specs.declared.term.Atom.{Atom}
 use Rattle.alg_terms.specs.declared.term.Term.{Term}
 use Rattle.alg_terms.specs.declared.file.File.{File}
 use Rattle.alg_terms.specs.declared.goals.Equation.{Equation}
 use Rattle.alg_mono.specs.NumberedPolynomials.{Polynomial, DifferFirst}
-use Rattle.alg_meaning.specs.Conditions.{denominators}
+use Rattle.alg_meaning.specs.Conditions.{conditions_of}
 use Rattle.alg_meaning.specs.FractionOutcome.{FractionOutcome}
 use Rattle.alg_reify.specs.declared.stop.Stop.{Stop}
 use Rattle.alg_reify.specs.FieldVerdict.{FieldVerdict, IsFieldVerdict, left_numerator, right_numerator, sides_outcome}
 use Rattle.alg_reify.specs.Numbered.{numbered}
 use Rattle.alg_reify.specs.RingVerdict.{own_table}
-use Rattle.alg_field.specs.Added.{add_conditions}
 use Rattle.alg_field.specs.declared.decide.FieldAnswer.{FieldAnswer}
 use Rattle.alg_field.specs.declared.decide.Sides.{Sides}
 use Rattle.alg_field.specs.declared.ends.FractionEnd.{FractionEnd}
@@ -51,14 +49,14 @@ IsComparison p q conditions (FieldAnswer.Proved all) = (p ≡ q) × (all ≡ con
 IsComparison p q conditions (FieldAnswer.No at left right) = DifferFirst p q at left right
 IsComparison p q conditions (FieldAnswer.ZeroDenominator t) = ⊥
 
--- the cleared numerators of both sides, by the numbers of a table, with the denominators as conditions
-pub record AreSides (char0 : Bool) (atoms : List Atom) (e : Equation) (s : Sides) : Type 0 where
-  pub left : s.left ≡ numbered atoms (left_numerator e)
-  pub right : s.right ≡ numbered atoms (right_numerator e)
+-- the cleared numerators of both sides, with the conditions
+pub record AreSides (file : File) (e : Equation) (s : Sides) : Type 0 where
+  pub left : s.left ≡ numbered (own_table file e) (left_numerator e)
+  pub right : s.right ≡ numbered (own_table file e) (right_numerator e)
   pub fine : sides_outcome e ≡ FractionOutcome.Fine
-  pub conditions : s.conditions.items ≡ add_conditions char0 [] (denominators e.left ++ denominators e.right)
+  pub conditions : s.conditions.items ≡ conditions_of file e
 
 -- they were made, or the end is told
-abbrev pub MakesSides : Bool → List Atom → Equation → Result Sides FractionEnd → Type 0
-MakesSides char0 atoms e (Ok s) = AreSides char0 atoms e s
-MakesSides char0 atoms e (Err end) = TellsEnd end (sides_outcome e)
+abbrev pub MakesSides : File → Equation → Result Sides FractionEnd → Type 0
+MakesSides file e (Ok s) = AreSides file e s
+MakesSides file e (Err end) = TellsEnd end (sides_outcome e)

@@ -8,3 +8,4 @@ pub mod Ends
 pub mod Added
 pub mod Making
 pub mod Answers
+pub mod Laws

@@ -46,10 +46,7 @@ pub(crate) fn cleared(
     ensures refused { IfErr result (λ e.
         Tells e (worse (over_outcome left lacks.now.left) (over_outcome right lacks.now.right))) }
 {
-    kept(worse(
-        lacks.left.rule_over(&left),
-        lacks.right.rule_over(&right),
-    ))?;
+    kept(worse(lacks.left.rule_over(&left), lacks.right.rule_over(&right)))?;
     let left = lacks.left.over(alloc, left)?;
     let right = lacks.right.over(alloc, right)?;
     Ok((left, right))

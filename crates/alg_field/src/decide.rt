@@ -1,11 +1,11 @@
 //! The answer to an equation by field.
 
-ghost use Rattle.std.specs.Prelude.{◌≡◌, [], IfOk, IfErr};
+ghost use Rattle.std.specs.Prelude.{◌≡◌, IfOk, IfErr};
 ghost use Rattle.alg_terms.specs.GoalRules.{IsEquation};
 ghost use Rattle.alg_terms.specs.Members.{sort_at};
 ghost use Rattle.alg_reify.specs.FieldVerdict.{IsFieldVerdict};
+ghost use Rattle.alg_reify.specs.RingVerdict.{own_table};
 ghost use Rattle.alg_field.specs.Answers.{verdict_of, Stops, HasNumerators, IsComparison, MakesSides};
-ghost use Rattle.alg_field.specs.Making.{IsOver};
 
 use crate::ends::FractionEnd;
 use crate::fraction::numerators;
@@ -55,11 +55,7 @@ struct Sides {
 /// norms or degrees, gives the answer `ZeroDenominator`, or `Range` or `Degree`; so do both cleared
 /// numerators after them. At one node `Range` comes before `Degree`, and its bounds are tested before
 /// its products are made.
-pub fn decide_field(
-    alloc: Global,
-    file: &File,
-    equation: &Equation,
-) -> Result<FieldDecision, Stop>
+pub fn decide_field(alloc: Global, file: &File, equation: &Equation) -> Result<FieldDecision, Stop>
     requires { IsEquation file.now equation.now }
     ensures answer { IfOk result (λ d. IsFieldVerdict file.now equation.now (verdict_of d.answer)) }
     ensures numerators { IfOk result (λ d.
@@ -67,12 +63,14 @@ pub fn decide_field(
     ensures stop { IfErr result (Stops file.now equation.now) }
 {
     let table = atoms_of(alloc, file, equation, &[])?;
-    match make_sides(alloc, &table, has_char0(file, equation.sort), equation) {
-        Ok(Sides {
-            left,
-            right,
-            conditions,
-        }) => {
+    match make_sides(alloc, file, &table, equation) {
+        Ok(
+            Sides {
+                left,
+                right,
+                conditions,
+            },
+        ) => {
             let answer = compared(alloc, &left, &right, conditions)?;
             Ok(FieldDecision {
                 answer,
@@ -101,18 +99,33 @@ fn has_char0(file: &File, sort: u32) -> bool
 /// both numerators.
 fn make_sides(
     alloc: Global,
+    file: &File,
     table: &Atoms,
-    char0: bool,
     equation: &Equation,
 ) -> Result<Sides, FractionEnd>
-    requires left { IsOver table.now [] equation.now.left }
-    requires right { IsOver table.now [] equation.now.right }
-    ensures { MakesSides char0 table.now equation.now result }
+    requires equation { IsEquation file.now equation.now }
+    requires table { table.now ≡ own_table file.now equation.now }
+    ensures { MakesSides file.now equation.now result }
 {
+    let char0 = has_char0(file, equation.sort);
     let mut path = Vec::new(alloc);
     let mut conditions = Vec::new(alloc);
-    let left = make(alloc, table, char0, &mut path, &mut conditions, &equation.left)?;
-    let right = make(alloc, table, char0, &mut path, &mut conditions, &equation.right)?;
+    let left = make(
+        alloc,
+        table,
+        char0,
+        &mut path,
+        &mut conditions,
+        &equation.left,
+    )?;
+    let right = make(
+        alloc,
+        table,
+        char0,
+        &mut path,
+        &mut conditions,
+        &equation.right,
+    )?;
     let (left, right) = numerators(alloc, left, right)?;
     Ok(Sides {
         left,

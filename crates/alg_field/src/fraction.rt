@@ -58,8 +58,7 @@ fn added(
     right: HornerPoly,
     lacks: &Lacks,
 ) -> Result<HornerPoly, Overrun>
-    ensures {
-        let first = product_of left (product lacks.now.left) in
+    ensures { let first = product_of left (product lacks.now.left) in
         let second = product_of right (product lacks.now.right) in
         Gives (λ q. q) (sum_of first second)
         (first_breach (worse (over_outcome left lacks.now.left) (over_outcome right lacks.now.right))
@@ -76,8 +75,7 @@ fn subtracted(
     right: HornerPoly,
     lacks: &Lacks,
 ) -> Result<HornerPoly, Overrun>
-    ensures {
-        let first = product_of left (product lacks.now.left) in
+    ensures { let first = product_of left (product lacks.now.left) in
         let second = product_of right (product lacks.now.right) in
         Gives (λ q. q) (difference_of first second)
         (first_breach (worse (over_outcome left lacks.now.left) (over_outcome right lacks.now.right))

@@ -10,6 +10,7 @@ mod decide;
 mod ends;
 mod factors;
 mod fraction;
+pub mod laws;
 mod lists;
 mod make;
 mod multiply;

@@ -1,6 +1,7 @@
 pub mod Along
 pub mod AtomsIn
 pub mod Coefficients
+pub mod Differences
 pub mod FactorMeasures
 pub mod FactorProducts
 pub mod Held
@@ -9,10 +10,14 @@ pub mod Insertions
 pub mod Leaves
 pub mod Likes
 pub mod Made
+pub mod MayStand
 pub mod NearSums
 pub mod NumberedFractions
 pub mod KeptFractions
 pub mod FractionsIn
+pub mod FieldRanges
+pub mod FieldTerms
+pub mod FieldVerdicts
 pub mod FractionsAlong
 pub mod FractionsUnder
 pub mod Numbering

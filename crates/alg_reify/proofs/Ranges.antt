@@ -35,7 +35,7 @@ both_fine Outcome.Range later h = absurd (cc)
 both_fine Outcome.Degree later h = absurd (cc)
 
 -- what is not over is within
-bound_fine : (bound degree : ℕ) → outcome bound degree ≡ Outcome.Fine → bound ≤ MAX
+pub bound_fine : (bound degree : ℕ) → outcome bound degree ≡ Outcome.Fine → bound ≤ MAX
 bound_fine bound degree fine = (says_at bound degree Outcome.Fine fine).0
 
 -- the norm of a sum and of a difference
@@ -116,7 +116,7 @@ norm_within (Pow' _ (more_of-Term t _) n) h fine =
 norm_within (Hom' f _ (more_of-Term t _)) h fine = under_within f (poly_of t) (norm_within t h.1 fine)
 
 -- no coefficient is greater than the norm
-coefficient_within : (m : Monomial) (p : numbers.Polynomial) → unsigned_abs (coefficient_of m p) ≤ norm p
+pub coefficient_within : (m : Monomial) (p : numbers.Polynomial) → unsigned_abs (coefficient_of m p) ≤ norm p
 coefficient_within m [] = omega (arith, ints)
 coefficient_within m (e ∷ p) =
     elim (eq_by_cmp before m e.0) as

@@ -7,6 +7,7 @@ pub mod FractionsUnder
 pub mod Making
 pub mod RingVerdict
 pub mod FieldVerdict
+pub mod FieldLaws
 pub mod Stops
 pub mod Laws
 pub mod Tried

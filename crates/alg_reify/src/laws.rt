@@ -1,6 +1,7 @@
-//! What holds of numbered polynomials and of the verdicts by ring. The functions do nothing: their
-//! contracts are the laws.
+//! What holds of numbered polynomials and fractions and of the verdicts by ring and by field. The
+//! functions do nothing: their contracts are the laws.
 
+ghost use Rattle.alg_reify.specs.FieldLaws.{OneFieldVerdict, FieldNoDiffers, FieldNoIsOverTheTable, FieldNoIsWithinRange, FieldTermsMayStand, SidesByNumbers};
 ghost use Rattle.alg_reify.specs.FractionsUnder.{FractionsUnderPaths};
 ghost use Rattle.alg_reify.specs.NumberedFractions.{NumberingKeeps};
 ghost use Rattle.alg_reify.specs.Laws.{NumberedCoefficients, OneRingVerdict, NoDiffers, NoIsOverTheTable, NoIsWithinRange};
@@ -45,3 +46,40 @@ pub fn no_is_over_the_table()
 pub fn no_is_within_range()
     ensures { NoIsWithinRange }
 {}
+
+/// By the numbers of an equation's table, the numerators of its sides over their common factors are
+/// made of the fractions of the sides. Making them breaks the same rules, and they are equal only
+/// where the numerators are.
+pub fn sides_by_numbers()
+    ensures { SidesByNumbers }
+{}
+
+/// An equation has at most one verdict by field.
+pub fn one_field_verdict()
+    ensures { OneFieldVerdict }
+{}
+
+/// Where the verdict by field is No, the numerators of the sides over their common factors are
+/// different polynomials: at the monomial of the verdict, read as atoms, they have its two
+/// coefficients, which differ.
+pub fn field_no_differs()
+    ensures { FieldNoDiffers }
+{}
+
+/// The monomial of a verdict No by field is over numbers of the equation's table.
+pub fn field_no_is_over_the_table()
+    ensures { FieldNoIsOverTheTable }
+{}
+
+/// The coefficients of a verdict No by field are at most 2^127 - 1 in magnitude.
+pub fn field_no_is_within_range()
+    ensures { FieldNoIsWithinRange }
+{}
+
+/// The conditions of a verdict on a goal by field of a file, and its denominator that is zero, are
+/// terms that may stand in an answer to the goal.
+pub fn field_terms_may_stand()
+    ensures { FieldTermsMayStand }
+{
+    alg_meaning::laws::conditions_say();
+}

@@ -1,9 +1,7 @@
-use Rattle.std.proofs.Common.{rules, ◌≡◌, ◌∙◌, sym, ap}
+use Rattle.std.proofs.Common.{rules, ◌∙◌, sym, ap}
 use mir.Syntax.{w128}
 use mir.Val.{SFits}
 use Rattle.std.proofs.lemmas.Int.{to_z-of_z}
-use Rattle.alg_mono.specs.NumberedPolynomials.{term_of}
-use Rattle.alg_horner.specs.Form.{Form}
 use Rattle.alg_horner.specs.Maps.{map_of}
 use Rattle.alg_horner.specs.Trees.{form_of}
 use Rattle.alg_horner.proofs.Polynomials.{constant_is}

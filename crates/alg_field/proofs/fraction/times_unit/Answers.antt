@@ -1,8 +1,7 @@
-use Rattle.std.proofs.Common.{rules, ◌∙◌, ◌*◌, ◌+◌, ◌≤◌, sym, ap, subst, arith}
+use Rattle.std.proofs.Common.{rules, ◌∙◌, ◌*◌, sym, ap, subst, arith}
 use Rattle.alg_mono.specs.NumberedPolynomials.{Polynomial, product_of}
 use Rattle.alg_mono.specs.Outcomes.{Outcome}
 use Rattle.alg_mono.specs.Polynomials.{norm}
-use Rattle.alg_mono.specs.Refusals.{Tells}
 use Rattle.alg_horner.specs.Trees.{form_of}
 use Rattle.alg_horner.proofs.Polynomials.{within_limits}
 use Rattle.alg_field.specs.Factors.{product}

@@ -1,5 +1,4 @@
-use Rattle.std.proofs.Common.{rules, arith, ◌≡◌, ◌+◌, ◌*◌, ◌≤◌, ◌<◌, ◌∙◌, sym, ap, get_or, length, slice_set, suc}
-use Rattle.alg_field.specs.Lists.{MAX_POWER}
+use Rattle.std.proofs.Common.{rules, arith, ◌≡◌, ◌+◌, ◌*◌, ◌<◌, ◌∙◌, ap, get_or, length, slice_set, suc}
 use Rattle.alg_field.proofs.Scaling.{scaled_to, scaled_at, scaled_next, scaled_small, scaled_all, length-scaled_to}
 use Rattle.alg_field.proofs.lists.scale.Goals as goal
 

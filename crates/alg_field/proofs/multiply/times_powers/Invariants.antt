@@ -1,5 +1,4 @@
 use Rattle.std.proofs.Common.{◌≡◌, drop}
-use Rattle.std.specs.Ordering.{nat_cmp}
 use Rattle.alg_mono.specs.NumberedPolynomials.{product_of}
 use Rattle.alg_field.specs.Factors.{product}
 use Rattle.alg_field.specs.Within.{IsWithin}

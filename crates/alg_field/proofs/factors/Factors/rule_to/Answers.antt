@@ -1,4 +1,4 @@
-use Rattle.std.proofs.Common.{◌∙◌, ◌*◌, ◌^◌, sym, ap}
+use Rattle.std.proofs.Common.{◌∙◌, ◌*◌, ◌^◌, sym}
 use Rattle.alg_mono.specs.Outcomes.{outcome}
 use Rattle.alg_meaning.specs.FractionRules.{below_outcome}
 use Rattle.alg_field.specs.Factors.{power_map}

@@ -1,4 +1,4 @@
-use Rattle.std.proofs.Common.{◌∙◌, ◌+◌, ◌*◌, sym, ap, subst}
+use Rattle.std.proofs.Common.{◌∙◌, ◌+◌, ◌*◌, sym, subst}
 use Rattle.alg_mono.specs.FiniteMaps.{IsCanonical}
 use Rattle.alg_mono.specs.Numbers.{exponents}
 use Rattle.alg_mono.proofs.Canonical.{IsCanonical-collect}

@@ -2,8 +2,7 @@ use Rattle.std.specs.Prelude.{◌≡◌, Bool, true, false, cond, List, [], ◌�
 use Rattle.std.proofs.Common.{◌∙◌, sym, ap, subst, append-nil}
 use Rattle.std.specs.Ordering.{nat_cmp}
 use Rattle.alg_mono.specs.NumberedPolynomials.{Polynomial, product_of}
-use Rattle.alg_mono.specs.Outcomes.{Outcome, product_outcome}
-use Rattle.alg_mono.proofs.Canonical.{collect-canonical}
+use Rattle.alg_mono.specs.Outcomes.{product_outcome}
 use Rattle.alg_meaning.specs.FractionRules.{worse, all_factors, below_outcome}
 use Rattle.alg_meaning.specs.FractionsOver.{is_unit, frac_quotient}
 use Rattle.alg_field.specs.Factors.{FactorMap, times_map, product}
