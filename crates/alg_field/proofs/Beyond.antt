@@ -1,24 +1,21 @@
 -- What one list of factors has beyond another.
-use Rattle.std.specs.Prelude.{◌≡◌, ◌≢◌, Bool, ℕ, zero, suc, ◌+◌, ◌-◌, ◌*◌, ◌<◌, ◌≤◌, true, false, cond, not, List, [], ◌∷◌, ◌++◌, length, drop, slice_set}
+use Rattle.std.specs.Prelude.{◌≡◌, Bool, ℕ, ◌+◌, ◌-◌, ◌<◌, ◌≤◌, true, false, cond, [], ◌∷◌, ◌++◌, length, drop}
 use Rattle.std.proofs.lemmas.Bool.Decides.{nat_tests}
 use Rattle.std.proofs.Common.{get_or, refl, sym, ap, subst, ◌∙◌, T, arith, append_assoc}
-use Rattle.std.specs.declared.cmp.Ordering.{Ordering}
-use Rattle.std.specs.Ordering.{is_eq, eq_by_cmp}
-use Rattle.std.specs.Cmp.{tied_itself}
-use Rattle.alg_mono.specs.FiniteMaps.{IsCanonical, Each, at_key, amount, keep, collect}
+use Rattle.std.specs.Ordering.{eq_by_cmp}
+use Rattle.alg_mono.specs.FiniteMaps.{keep}
 use Rattle.alg_mono.specs.Numbers.{exponents}
 use Rattle.alg_mono.specs.NumberedPolynomials.{Polynomial}
-use Rattle.alg_mono.specs.Monomials.{mono_over, lowered}
+use Rattle.alg_mono.specs.Monomials.{lowered}
 use Rattle.alg_mono.proofs.Numbers.{exponent_laws}
-use Rattle.alg_mono.proofs.Canonical.{same_canonical, amount-collect, IsCanonical-collect, equal}
+use Rattle.alg_mono.proofs.Canonical.{IsCanonical-collect, equal}
 use Rattle.alg_mono.proofs.Lcm.{exponent-mono_over}
-use Rattle.alg_mono.proofs.Monomials.{exponent-mono_times}
 use Rattle.alg_mono.proofs.Merges.{keep_front}
 use Rattle.alg_mono.proofs.MergeTurns.{drop_at}
-use Rattle.alg_field.specs.Factors.{FactorMap, order, exponent_of, times_map, lacks}
-use Rattle.alg_field.specs.Lists.{map_of, IsList, IsFactor, MAX_POWER, put, put_all, beyond, place_of}
+use Rattle.alg_field.specs.Factors.{FactorMap, order, exponent_of, lacks}
+use Rattle.alg_field.specs.Lists.{map_of, IsList, IsFactor, MAX_POWER, beyond}
 use Rattle.alg_field.proofs.Order.{order_total, order_anti}
-use Rattle.alg_field.proofs.ListMaps.{exponent-map_of, same_map, itself, differs}
+use Rattle.alg_field.proofs.ListMaps.{exponent-map_of, same_map}
 
 exponent-keep : (q k : Polynomial) (n : ℕ) (es : FactorMap) →
     exponent_of q (keep order exponents k n es) ≡ cond (eq_by_cmp order q k) n 0 + exponent_of q es

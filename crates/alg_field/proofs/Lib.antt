@@ -5,4 +5,16 @@ pub mod Puts
 pub mod Places
 pub mod Measures
 pub mod Within
+pub mod Tests
+pub mod Multiplied
+pub mod Scaling
+pub mod MapRules
+pub mod Giving
+pub mod Units
+pub mod EachOnce
+pub mod Operations
+pub mod TermParts
+pub mod TermMade
+pub mod TermLeaves
+pub mod Sides
 pub mod Right

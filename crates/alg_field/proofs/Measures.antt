@@ -1,11 +1,11 @@
 -- The norms and degrees of all factors of a list.
-use Rattle.std.specs.Prelude.{◌≡◌, ℕ, zero, suc, ◌+◌, ◌*◌, ◌^◌, ◌<◌, ◌≤◌, Bool, true, false, cond, ◌||◌, List, [], ◌∷◌, ◌++◌, sum_by, length, drop}
+use Rattle.std.specs.Prelude.{◌≡◌, ℕ, zero, suc, ◌+◌, ◌*◌, ◌^◌, ◌<◌, ◌≤◌, false, cond, ◌||◌, [], ◌∷◌, ◌++◌, sum_by, length, drop}
 use Rattle.std.proofs.Common.{get_or, refl, sym, ap, subst, ◌∙◌, arith}
-use Rattle.std.proofs.Math.Nat.{mul_assoc, pow-zero, pow-succ'}
+use Rattle.std.proofs.Math.Nat.{mul_assoc, pow-zero, pow-succ', pow-le-pow_right}
 use Rattle.std.proofs.lemmas.Nat.{mul-le, mul-pow, pow-add}
 use Rattle.std.proofs.lemmas.List.Sums.{sum_by-cons}
 use Rattle.alg_mono.specs.FiniteMaps.{Each, total}
-use Rattle.alg_mono.specs.Outcomes.{Outcome, outcome, product_outcome, has_zero, norm_product, is_nothing}
+use Rattle.alg_mono.specs.Outcomes.{Outcome, outcome, has_zero, norm_product, is_nothing}
 use Rattle.alg_mono.specs.Polynomials.{PolyOver, norm, poly_degree}
 use Rattle.alg_mono.proofs.MergeTurns.{drop_at}
 use Rattle.alg_mono.proofs.Numbers.{exponent_laws, natural_sum}
@@ -28,6 +28,18 @@ pub power_some : (a n : ℕ) → 0 < a → 0 < a ^ n
 power_some a zero h = omega (arith, pow-zero a)
 power_some a (suc n) h =
     let rest = product_some a (a ^ n) h (power_some a n h) in omega (arith, pow-succ' a n, rest)
+
+-- a power of at least 1 is no less, and so is a product
+pub power_more : (a n : ℕ) → 0 < a → 0 < n → a ≤ a ^ n
+power_more a n h g =
+    let one : a ^ 1 ≡ a = pow-succ' a zero ∙ ap (λ x. a * x) (pow-zero a) ∙ times_one a in
+    omega (arith, one, pow-le-pow_right h {i = 1} {j = n} (omega arith))
+  where
+    times_one : (a : ℕ) → a * 1 ≡ a
+    times_one a = omega arith
+
+pub times_more : (a b : ℕ) → 0 < b → a ≤ a * b
+times_more a b g = let at : a * 1 ≤ a * b = mul-le a 1 a b (omega arith) (omega arith) in omega (arith, at)
 
 norm-many : (n x : ℕ) → many norm_sum n x ≡ x ^ n
 norm-many zero x = sym (pow-zero x)
@@ -64,11 +76,8 @@ module _ {K : Type 0} where
       let whole : (out * norm x.0 ^ x.1) * norm_product (all_factors rest) ≡ all =
       mul_assoc out (norm x.0 ^ x.1) (norm_product (all_factors rest))
       ∙ ap (λ n. out * n) (sym (norm_first x rest) ∙ sym (ap (λ m. norm_product (all_factors m)) from)) ∙ is in
-      let more = times_some (out * norm x.0 ^ x.1) (norm_product (all_factors rest)) (norms_some rest parts.1) in
+      let more = times_more (out * norm x.0 ^ x.1) (norm_product (all_factors rest)) (norms_some rest parts.1) in
       (whole, parts.0, parts.1, omega (arith, whole, more))
-    where
-      times_some : (a b : ℕ) → 0 < b → a ≤ a * b
-      times_some a b g = let at : a * 1 ≤ a * b = mul-le a 1 a b (omega arith) (omega arith) in omega (arith, at)
 
   -- no factor with a norm is zero
   no_zero : (m : FactorsOver K) → Each (λ q. 0 < norm q) m → has_zero (all_factors m) ≡ false
@@ -156,7 +165,12 @@ norms-scaled n (e ∷ m) =
 pub degrees-scaled : (n : ℕ) (m : FactorMap) → degrees (scaled n m) ≡ n * degrees m
 degrees-scaled n [] = omega arith
 degrees-scaled n (e ∷ m) =
-    omega (arith, degree_first (e.0, e.1 * n) (scaled n m), degrees-scaled n m, degree_first e m)
+    degree_first (e.0, e.1 * n) (scaled n m)
+    ∙ times_in n e.1 (poly_degree e.0) (degrees m) (degrees (scaled n m)) (degrees-scaled n m)
+    ∙ ap (λ x. n * x) (sym (degree_first e m))
+  where
+    times_in : (n k d s x : ℕ) → x ≡ n * s → k * n * d + x ≡ n * (k * d + s)
+    times_in n k d s x h = omega (arith, h)
 
 -- the map of a list
 measure-map : {B : Type 0} {none : B} {plus : B → B → B} (S : IsSum none plus) (h : Polynomial → B) (m : FactorMap) →
@@ -172,6 +186,11 @@ pub degrees-map_of : (m : FactorMap) → degrees (map_of m) ≡ degrees m
 degrees-map_of m =
     degree_measure (all_factors (map_of m)) ∙ measure-map natural_sum (λ p. poly_degree p) m
     ∙ sym (degree_measure (all_factors m))
+
+pub zero-map_of : (m : FactorMap) → has_zero (all_factors (map_of m)) ≡ has_zero (all_factors m)
+zero-map_of m =
+    zero_measure (all_factors (map_of m)) ∙ measure-map either_sum (λ p. is_nothing p) m
+    ∙ sym (zero_measure (all_factors m))
 
 -- the product of all factors, none of which is zero, breaks the rule that the bounds break
 pub below_is : (m : FactorMap) → Each (λ q. 0 < norm q) m → below_outcome m ≡ outcome (norms m) (degrees m)

@@ -1,6 +1,6 @@
 -- Where the product of all factors is within the limits, no exponent is over its own.
-use Rattle.std.specs.Prelude.{◌≡◌, ◌≢◌, ℕ, zero, suc, ◌+◌, ◌*◌, ◌^◌, ◌<◌, ◌≤◌, Bool, true, false, cond, List, [], ◌∷◌, ◌++◌}
-use Rattle.std.proofs.Common.{refl, sym, ap, subst, ◌∙◌, arith, T}
+use Rattle.std.specs.Prelude.{◌≡◌, ℕ, ◌+◌, ◌*◌, ◌^◌, ◌<◌, ◌≤◌, true, false, cond, [], ◌∷◌}
+use Rattle.std.proofs.Common.{refl, sym, ap, subst, arith, T}
 use Rattle.std.proofs.Math.Nat.{pow-zero, pow-le-pow_left}
 use Rattle.std.proofs.Math.Pow.{pow_mono}
 use Rattle.std.proofs.lemmas.Nat.{mul-le, pow-add}
@@ -16,7 +16,7 @@ use Rattle.alg_field.specs.Factors.{FactorMap, order, exponent_of}
 use Rattle.alg_field.specs.Lists.{IsFactor, MAX_POWER}
 use Rattle.alg_field.specs.Rules.{norms, degrees}
 use Rattle.alg_field.proofs.Order.{order_anti}
-use Rattle.alg_field.proofs.Measures.{norm_first, degree_first, power_some, each_some, norms_some}
+use Rattle.alg_field.proofs.Measures.{norm_first, degree_first, power_some, each_some}
 
 same_polynomial : (q p : Polynomial) → eq_by_cmp order q p ≡ true → q ≡ p
 same_polynomial q p e = order_anti q p (equal _ (subst T (sym e) tt))

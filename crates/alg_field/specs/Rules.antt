@@ -4,7 +4,7 @@ use Rattle.alg_mono.specs.Outcomes.{Outcome, norm_product}
 use Rattle.alg_mono.specs.Polynomials.{poly_degree}
 use Rattle.alg_meaning.specs.FractionRules.{all_factors}
 use Rattle.alg_field.specs.Factors.{FactorMap}
-use Rattle.alg_field.specs.declared.bounds.Rule.{Rule}
+use Rattle.alg_field.specs.declared.rules.Rule.{Rule}
 
 -- the outcome that a rule is
 abbrev pub outcome_of : Rule → Outcome

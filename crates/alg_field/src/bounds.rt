@@ -1,6 +1,6 @@
 //! Which rule a product breaks, found by bounds on its norm and degree before anything is made.
 
-ghost use Rattle.std.specs.Prelude.{◌≡◌, ◌+◌, ◌*◌, ◌^◌, ◌<◌, ◌≤◌, ◌↔◌, [], IsTrue, ℕ};
+ghost use Rattle.std.specs.Prelude.{◌≡◌, ◌+◌, ◌*◌, ◌^◌, ◌<◌, ◌≤◌, ℕ};
 ghost use Rattle.alg_mono.specs.Monomials.{MAX_DEGREE};
 ghost use Rattle.alg_mono.specs.Outcomes.{outcome};
 ghost use Rattle.alg_mono.specs.Polynomials.{MAX, norm};
@@ -9,44 +9,15 @@ ghost use Rattle.alg_field.specs.Lists.{IsList};
 ghost use Rattle.alg_field.specs.Rules.{outcome_of, IsBound, norms, degrees};
 
 use crate::HornerPoly;
+use crate::constants::is_zero;
 use crate::lists::Factor;
+use crate::rules::{Rule, rule_of};
 
 /// The greatest norm of a polynomial.
 const GREATEST_NORM: u128 = i128::MAX as u128;
 
 /// The greatest degree of a polynomial.
 const GREATEST_DEGREE: u32 = 1000;
-
-/// Which rule is broken.
-#[derive(Clone, Copy, Debug, PartialEq, Eq)]
-pub(crate) enum Rule {
-    Fine,
-    /// The rule on norms.
-    Range,
-    /// The rule on degrees.
-    Degree,
-}
-
-/// Which rule is broken by two bounds, each None where it is over its limit.
-fn rule_of(norm: Option<u128>, degree: Option<u32>) -> Rule
-    ensures { (n d : ℕ) → IsBound MAX n norm → IsBound MAX_DEGREE d degree →
-        outcome_of result ≡ outcome n d }
-{
-    match norm {
-        None => Rule::Range,
-        Some(_) => match degree {
-            None => Rule::Degree,
-            Some(_) => Rule::Fine,
-        },
-    }
-}
-
-/// Whether it is the polynomial 0.
-pub(crate) fn is_zero(p: &HornerPoly) -> bool
-    ensures { IsTrue result ↔ (p.now ≡ []) }
-{
-    p.same(&HornerPoly::constant(0))
-}
 
 /// The norm, without a sign.
 fn size(p: &HornerPoly) -> u128

@@ -3,8 +3,19 @@
 #![tactic(auto)]
 
 mod bounds;
+mod common;
+mod conditions;
+mod constants;
+mod decide;
+mod ends;
+mod factors;
+mod fraction;
 pub mod laws;
 mod lists;
+mod make;
+mod multiply;
+mod rules;
 
 pub use alg_horner::HornerPoly;
 pub use alg_reify::{Mono, NoMemory, Stop};
+pub use decide::{FieldAnswer, FieldDecision, decide_field};

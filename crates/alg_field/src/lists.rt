@@ -1,6 +1,7 @@
 //! Lists of factors with exponents, in any order.
 
-ghost use Rattle.std.specs.Prelude.{◌≡◌, ◌+◌, ◌≤◌, ◌++◌, ◌∷◌, [], IfOk, OnOk, length};
+ghost use Rattle.std.specs.Prelude.{◌≡◌, ◌+◌, ◌*◌, ◌≤◌, ◌++◌, ◌∷◌, [], IfOk, OnOk, length};
+ghost use Rattle.alg_mono.specs.Monomials.{scaled};
 ghost use Rattle.alg_mono.specs.NumberedPolynomials.{Polynomial};
 ghost use Rattle.alg_field.specs.Factors.{exponent_of};
 ghost use Rattle.alg_field.specs.Lists.{IsList, MAX_POWER, put, put_all, beyond, place_of};
@@ -79,17 +80,6 @@ fn put_factor(list: &mut Vec<Factor>, q: HornerPoly, e: u32) -> Result<(), NoMem
     Ok(())
 }
 
-/// Copies of the factors.
-pub(crate) fn copies(alloc: Global, list: &[Factor]) -> Result<Vec<Factor>, NoMemory>
-    ensures { IfOk result (λ v. v.items ≡ list.now) }
-{
-    let mut out = Vec::new(alloc);
-    for factor in list {
-        push_factor(alloc, &mut out, &factor.0, factor.1)?;
-    }
-    Ok(out)
-}
-
 /// Puts each factor of a list into another.
 pub(crate) fn put_factors(
     alloc: Global,
@@ -107,4 +97,14 @@ pub(crate) fn put_factors(
         put_factor(out, q, factor.1)?;
     }
     Ok(())
+}
+
+/// Each exponent `n` times. It takes no memory.
+pub(crate) fn scale(list: &mut Vec<Factor>, n: u32)
+    requires { (q : Polynomial) → exponent_of q list.old.items * n ≤ MAX_POWER }
+    ensures { list.new.items ≡ scaled n list.old.items }
+{
+    for i in 0..list.len() {
+        list[i].1 *= n;
+    }
 }

@@ -22,7 +22,7 @@ filter_turn p y qs rs true c e h = rw e (ap (λ zs. cond (p y) (y ∷ zs) zs) h)
 filter_turn p y qs rs false c e h = rw e h
 
 -- a filter after another keeps what both keep
-filter_both : {A : Type 0} (p q r : A → Bool) → ((y : A) → r y ≡ (q y && p y)) → (ys : List A) →
+pub filter_both : {A : Type 0} (p q r : A → Bool) → ((y : A) → r y ≡ (q y && p y)) → (ys : List A) →
     filter p (filter q ys) ≡ filter r ys
 filter_both p q r same [] = refl
 filter_both p q r same (y ∷ ys) = filter_turn p y (filter q ys) (filter r ys) (q y) (r y) (same y)

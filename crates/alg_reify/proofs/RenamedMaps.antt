@@ -21,7 +21,7 @@ renamed-scaled f n [] = refl
 renamed-scaled f n (e ∷ m) = ap (λ r. (f e.0, e.1 * n) ∷ r) (renamed-scaled f n m)
 
 -- the exponent of a key in a list with each exponent n times
-exponent-scaled : {K : Type 0} (cmp : K → K → Ordering) (k : K) (n : ℕ) (m : List (K × ℕ)) →
+pub exponent-scaled : {K : Type 0} (cmp : K → K → Ordering) (k : K) (n : ℕ) (m : List (K × ℕ)) →
     amount cmp exponents k (scaled n m) ≡ amount cmp exponents k m * n
 exponent-scaled cmp k n [] = omega arith
 exponent-scaled cmp k n (e ∷ m) =

@@ -16,5 +16,5 @@ mod tests;
 pub use alg_poly::{Mono, Overrun, Poly};
 pub use alg_terms::NoMemory;
 pub use atoms::{Atoms, AtomsEnd, atoms_of};
-pub use making::reify;
+pub use making::{make_atom, reify};
 pub use stop::Stop;

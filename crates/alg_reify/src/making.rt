@@ -89,7 +89,7 @@ fn make<P: PolynomialForm>(
 }
 
 /// The polynomial that is one atom of the table.
-fn make_atom<P: PolynomialForm>(
+pub fn make_atom<P: PolynomialForm>(
     alloc: Global,
     table: &Atoms,
     path: &[u32],

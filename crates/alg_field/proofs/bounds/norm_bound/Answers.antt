@@ -1,4 +1,4 @@
-use Rattle.std.proofs.Common.{rules, arith, ◌≡◌, ◌+◌, ◌*◌, ◌^◌, ◌<◌, ◌≤◌, ◌∙◌, ap, sym, subst, drop, refl}
+use Rattle.std.proofs.Common.{arith, ◌≡◌, ◌+◌, ◌*◌, ◌^◌, ◌<◌, ◌∙◌, ap, subst, drop, refl}
 use Rattle.alg_mono.specs.Polynomials.{MAX, norm}
 use Rattle.alg_field.specs.Rules.{norms}
 use Rattle.alg_field.proofs.Measures.{norm_turn, product_some, power_some, each_some, each_factor}

@@ -1,5 +1,5 @@
-use Rattle.std.specs.Prelude.{◌≡◌, ◌<◌, ◌≤◌, ◌+◌, length}
-use Rattle.std.proofs.Common.{rules, arith, ◌∙◌, sym, subst, ap, get_or}
+use Rattle.std.specs.Prelude.{◌<◌, ◌≤◌, ◌+◌, length}
+use Rattle.std.proofs.Common.{rules, arith, ◌∙◌, sym, ap}
 use Rattle.alg_field.specs.Lists.{place_of}
 use Rattle.alg_field.proofs.Places.{put_at, put_last}
 use Rattle.alg_field.proofs.lists.put_factor.Goals as goal

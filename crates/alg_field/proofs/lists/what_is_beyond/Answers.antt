@@ -1,4 +1,4 @@
-use Rattle.std.proofs.Common.{◌≡◌, ◌∙◌, ◌+◌, ◌-◌, ◌++◌, [], ap, arith, get_or, refl, drop, append-nil}
+use Rattle.std.proofs.Common.{◌≡◌, ◌∙◌, ◌+◌, ◌-◌, ◌++◌, [], ap, arith, refl, drop, append-nil}
 use Rattle.alg_mono.specs.FiniteMaps.{keep}
 use Rattle.alg_mono.specs.Numbers.{exponents}
 use Rattle.alg_field.specs.Factors.{order, exponent_of}
