@@ -49,7 +49,8 @@ module _ (list : FactorMap) (i : ℕ) (x d : Polynomial × ℕ) (out : Polynomia
 
   module _ (r : Polynomial) (is : r ≡ power_of x.0 x.1) where
     norm_power : norm r ≤ norm x.0 ^ x.1
-    norm_power = omega (arith, ap (λ (p : Polynomial). norm p) is, norm-poly_power before (mono_times nat_cmp) [] x.0 x.1)
+    norm_power =
+        omega (arith, ap (λ (p : Polynomial). norm p) is, norm-poly_power before (mono_times nat_cmp) [] x.0 x.1)
 
     degree_power : poly_degree r ≤ x.1 * poly_degree x.0
     degree_power =
@@ -92,7 +93,8 @@ module _ (list : FactorMap) (i : ℕ) (x d : Polynomial × ℕ) (out : Polynomia
         let n = norms m in
         let size = ap (λ (p : Polynomial). norm p) made in
         let height = ap (λ (p : Polynomial). poly_degree p) made in
-        let light : norm s ≤ norm out * norm r = omega (arith, size, norm-poly_times before (mono_times nat_cmp) out r) in
+        let light : norm s ≤ norm out * norm r =
+        omega (arith, size, norm-poly_times before (mono_times nat_cmp) out r) in
         let small = at_first.small in
         let low = at_first.low in
         record {
@@ -102,7 +104,9 @@ module _ (list : FactorMap) (i : ℕ) (x d : Polynomial × ℕ) (out : Polynomia
               ∙ ring.at_plus out r ∙ sym made;
           some = at_first.some.1;
           light = omega (arith, mul-le (norm s) n (norm out * norm r) n light (omega arith), all_norms);
-          small = omega (arith, norm_first x m, more (norm x.0 ^ x.1) n (power_some (norm x.0) x.1 at_first.some.0), small);
+          small =
+              let most = more (norm x.0 ^ x.1) n (power_some (norm x.0) x.1 at_first.some.0) in
+              omega (arith, norm_first x m, most, small);
           low = omega (
             arith,
             height,

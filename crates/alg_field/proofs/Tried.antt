@@ -55,8 +55,8 @@ module _ (file : File) (d : ℕ) (l r : Term) (h : IsSide file d l) (g : IsSide 
   -- both parts have the variable's sort
   agreeing : Agree (own_sort file l) (own_sort file r)
   agreeing =
-      let P = Agree in
-      subst (λ s. Agree s (own_sort file r)) (sym h.sort) (subst (λ s. Agree (Some (sort_of_var file 0)) s) (sym g.sort) refl)
+      subst (λ s. Agree s (own_sort file r)) (sym h.sort)
+      (subst (λ s. Agree (Some (sort_of_var file 0)) s) (sym g.sort) refl)
 
   both_sorts : option_or (own_sort file l) (own_sort file r) ≡ Some (sort_of_var file 0)
   both_sorts = ap (λ s. option_or s (own_sort file r)) h.sort
@@ -86,7 +86,8 @@ module _ (file : File) (d : ℕ) (l r : Term) (h : IsSide file d l) (g : IsSide 
       record { left = h.term; right = g.term; sides = agreeing; sort = both_sorts ∙ ap Some (sym is) }
 
 -- the first of some variables
-pub first_of : (vars : List VarDecl) (x y : VarDecl) → 0 < length vars → slice_index_or vars 0 x ≡ slice_index_or vars 0 y
+pub first_of : (vars : List VarDecl) (x y : VarDecl) → 0 < length vars →
+    slice_index_or vars 0 x ≡ slice_index_or vars 0 y
 first_of [] x y there = absurd (omega arith)
 first_of (v ∷ vars) x y there = refl
 
