@@ -52,7 +52,8 @@ exponent-beyond q a (f ∷ b) h =
     beside : (l s x : ℕ) → l ≡ s - x → 0 + l ≡ (0 + s) - x
     beside l s x i = omega arith
 
-IsList-keep : (k : Polynomial) (n : ℕ) (es : FactorMap) → exponent_of k es ≡ 0 → n ≤ MAX_POWER → IsFactor k → IsList es →
+IsList-keep : (k : Polynomial) (n : ℕ) (es : FactorMap) → exponent_of k es ≡ 0 → n ≤ MAX_POWER → IsFactor k →
+    IsList es →
     IsList (keep order exponents k n es)
 IsList-keep k n es apart small is h =
     elim (exponents.is_none n) as (λ b. IsList (cond b es ((k, n) ∷ es))) [ true ↦ h | false ↦ (apart, small, is, h) ]

@@ -5,7 +5,7 @@ pub mod Puts
 pub mod Places
 pub mod Measures
 pub mod Within
-pub mod Tests
+pub mod NumberTests
 pub mod Multiplied
 pub mod Scaling
 pub mod MapRules
@@ -18,3 +18,4 @@ pub mod TermMade
 pub mod TermLeaves
 pub mod Sides
 pub mod Right
+pub mod Tried

@@ -90,4 +90,5 @@ power_within n a h fine q =
 
 -- no more factors
 pub times_none : (m : FactorMap) → IsCanonical order exponents m → times_map m [] ≡ m
-times_none m h = ap (λ es. collect order exponents es) (append-nil m) ∙ collect-canonical exponent_laws order_total order_anti m h
+times_none m h =
+    ap (λ es. collect order exponents es) (append-nil m) ∙ collect-canonical exponent_laws order_total order_anti m h

@@ -72,7 +72,8 @@ module _ {K : Type 0} where
   norm_turn list i x d out all h e some is =
       let rest = drop (i + 1) list in
       let from : drop i list ≡ x ∷ rest = drop_at list i x d h e in
-      let parts : Each (λ q. 0 < norm q) (x ∷ rest) = subst (λ (m : FactorsOver K). Each (λ q. 0 < norm q) m) from some in
+      let parts : Each (λ q. 0 < norm q) (x ∷ rest) =
+      subst (λ (m : FactorsOver K). Each (λ q. 0 < norm q) m) from some in
       let whole : (out * norm x.0 ^ x.1) * norm_product (all_factors rest) ≡ all =
       mul_assoc out (norm x.0 ^ x.1) (norm_product (all_factors rest))
       ∙ ap (λ n. out * n) (sym (norm_first x rest) ∙ sym (ap (λ m. norm_product (all_factors m)) from)) ∙ is in
@@ -101,7 +102,8 @@ module _ {K : Type 0} where
 
   -- a polynomial other than zero times factors: what the bounds say
   pub over_is : (p : PolyOver K) (m : FactorsOver K) → 0 < norm p → Each (λ q. 0 < norm q) m →
-      over_outcome p m ≡ outcome (norm p * norm_product (all_factors m)) (poly_degree p + sum_by poly_degree (all_factors m))
+      over_outcome p m ≡ outcome (norm p * norm_product (all_factors m))
+      (poly_degree p + sum_by poly_degree (all_factors m))
   over_is [] m h some = absurd (omega arith)
   over_is (e ∷ p) m h some =
       let q = e ∷ p in

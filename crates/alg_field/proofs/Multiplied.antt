@@ -24,7 +24,7 @@ use Rattle.alg_field.specs.Rules.{norms, degrees}
 use Rattle.alg_field.specs.Within.{IsWithin}
 use Rattle.alg_field.specs.Lists.{IsList}
 use Rattle.alg_field.proofs.Measures.{norm_first, degree_first, norms_some, times_more, power_some, each_some, each_factor, over_is}
-use Rattle.alg_field.proofs.Tests.{norm_some}
+use Rattle.alg_field.proofs.NumberTests.{norm_some}
 
 module _ (list : FactorMap) (i : ℕ) (x d : Polynomial × ℕ) (out : Polynomial) (h : i < length list)
     (e : x ≡ get_or list i d) (w : IsWithin out (drop i list)) where
@@ -49,7 +49,8 @@ module _ (list : FactorMap) (i : ℕ) (x d : Polynomial × ℕ) (out : Polynomia
 
   module _ (r : Polynomial) (is : r ≡ power_of x.0 x.1) where
     norm_power : norm r ≤ norm x.0 ^ x.1
-    norm_power = omega (arith, ap (λ (p : Polynomial). norm p) is, norm-poly_power before (mono_times nat_cmp) [] x.0 x.1)
+    norm_power =
+        omega (arith, ap (λ (p : Polynomial). norm p) is, norm-poly_power before (mono_times nat_cmp) [] x.0 x.1)
 
     degree_power : poly_degree r ≤ x.1 * poly_degree x.0
     degree_power =
@@ -92,7 +93,8 @@ module _ (list : FactorMap) (i : ℕ) (x d : Polynomial × ℕ) (out : Polynomia
         let n = norms m in
         let size = ap (λ (p : Polynomial). norm p) made in
         let height = ap (λ (p : Polynomial). poly_degree p) made in
-        let light : norm s ≤ norm out * norm r = omega (arith, size, norm-poly_times before (mono_times nat_cmp) out r) in
+        let light : norm s ≤ norm out * norm r =
+        omega (arith, size, norm-poly_times before (mono_times nat_cmp) out r) in
         let small = at_first.small in
         let low = at_first.low in
         record {
@@ -102,7 +104,9 @@ module _ (list : FactorMap) (i : ℕ) (x d : Polynomial × ℕ) (out : Polynomia
               ∙ ring.at_plus out r ∙ sym made;
           some = at_first.some.1;
           light = omega (arith, mul-le (norm s) n (norm out * norm r) n light (omega arith), all_norms);
-          small = omega (arith, norm_first x m, more (norm x.0 ^ x.1) n (power_some (norm x.0) x.1 at_first.some.0), small);
+          small =
+              let most = more (norm x.0 ^ x.1) n (power_some (norm x.0) x.1 at_first.some.0) in
+              omega (arith, norm_first x m, most, small);
           low = omega (
             arith,
             height,

@@ -123,7 +123,8 @@ pub IsList-put_all : (a b : FactorMap) → IsList a → IsList b →
     ((q : Polynomial) → exponent_of q a + exponent_of q b ≤ MAX_POWER) → IsList (put_all a b)
 IsList-put_all a [] h g within = h
 IsList-put_all a (f ∷ b) h g within =
-    IsList-put_all (put f.0 f.1 a) b (IsList-put f.0 f.1 a (within_here a (f ∷ b) 0 f f (omega arith) refl within) g.2 h) g.3
+    IsList-put_all (put f.0 f.1 a) b
+    (IsList-put f.0 f.1 a (within_here a (f ∷ b) 0 f f (omega arith) refl within) g.2 h) g.3
     (within_turn a (f ∷ b) 0 f f (omega arith) refl within)
 
 -- no exponent is over the limit

@@ -118,7 +118,8 @@ module _ (file : File) (e : Equation) (table : List Atom) (is : table ≡ own_ta
 
 -- both numerators were compared
 pub answered : (file : File) (e : Equation) (s : Sides) (answer : FieldAnswer) → length (own_table file e) ≤ MAX_ATOMS →
-    AreSides file e s → IsComparison s.left s.right s.conditions.items answer → IsFieldVerdict file e (verdict_of answer)
+    AreSides file e s → IsComparison s.left s.right s.conditions.items answer →
+    IsFieldVerdict file e (verdict_of answer)
 answered file e s (FieldAnswer.Proved all) small sides h = (
   (small, sides.fine),
   (sides_by_numbers file e).equal (sym sides.left ∙ h.0 ∙ sides.right),

@@ -9,3 +9,4 @@ pub mod Added
 pub mod Making
 pub mod Answers
 pub mod Laws
+pub mod Tried

@@ -15,6 +15,8 @@ mod lists;
 mod make;
 mod multiply;
 mod rules;
+#[cfg(test)]
+mod tests;
 
 pub use alg_horner::HornerPoly;
 pub use alg_reify::{Mono, NoMemory, Stop};

@@ -6,7 +6,8 @@ use Rattle.alg_field.proofs.bounds.norm_bound.Goals as goal
 
 pub loop-factor-init : goal.loop-factor-init
 loop-factor-init c =
-    (refl, c.requires.start.0, c.requires.start.1, each_some c.args.list.now (each_factor c.args.list.now c.requires.list))
+    let list = c.args.list.now in
+    (refl, c.requires.start.0, c.requires.start.1, each_some list (each_factor list c.requires.list))
 
 -- the bound is too great already, and the rest makes it no smaller
 pub returns-in-None : goal.returns-in-None

@@ -2,7 +2,7 @@ use Rattle.std.specs.Prelude.{◌≡◌, false, ◌||◌, ◌∷◌, [], pos, ne
 use Rattle.std.specs.Ordering.{eq_by_cmp}
 use Rattle.std.proofs.Common.{refl, sym, ap, ◌∙◌}
 use Rattle.alg_field.specs.Factors.{order}
-use Rattle.alg_field.proofs.Tests.{number_test}
+use Rattle.alg_field.proofs.NumberTests.{number_test}
 use Rattle.alg_field.proofs.constants.is_unit.Goals as goal
 
 -- it is not 1, so it is a unit where it is -1

@@ -1,5 +1,5 @@
 use Rattle.std.proofs.Common.{◌∙◌}
-use Rattle.alg_field.proofs.Tests.{zero_test}
+use Rattle.alg_field.proofs.NumberTests.{zero_test}
 use Rattle.alg_field.proofs.constants.is_zero.Goals as goal
 
 pub returns-clause-test : goal.returns-clause-test

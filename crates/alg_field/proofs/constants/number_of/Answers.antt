@@ -5,7 +5,7 @@ use Rattle.std.proofs.lemmas.Int.{to_z-of_z}
 use Rattle.alg_horner.specs.Maps.{map_of}
 use Rattle.alg_horner.specs.Trees.{form_of}
 use Rattle.alg_horner.proofs.Polynomials.{constant_is}
-use Rattle.alg_field.proofs.Tests.{only_number}
+use Rattle.alg_field.proofs.NumberTests.{only_number}
 use Rattle.alg_field.proofs.constants.number_of.Goals as goal
 
 pub returns-in-Const-clause-number : goal.returns-in-Const-clause-number

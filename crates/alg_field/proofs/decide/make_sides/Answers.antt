@@ -22,8 +22,8 @@ returns-in_err-left-2 c =
     let first = subst Q c.new-path.ensures.items c.in_ok-left.ensures in
     sides_failed c.args.file.now c.args.equation.now c.from_residual-in_err-left-2.result _
     c.from_residual-in_err-left-2.ensures.1
-    (numerators_told c.args.file.now c.args.equation.now c.args.table.now c.requires.table c.has_char0-char0.result _ _ _
-    _ _ c.in_ok-left.left c.in_ok-right.right c.new-conditions.ensures.items first c.in_ok-right.ensures _
+    (numerators_told c.args.file.now c.args.equation.now c.args.table.now c.requires.table c.has_char0-char0.result
+    _ _ _ _ _ c.in_ok-left.left c.in_ok-right.right c.new-conditions.ensures.items first c.in_ok-right.ensures _
     c.in_err-left-2.ensures.refused)
 
 -- both were made
@@ -33,6 +33,6 @@ returns c =
     c.new-conditions.result.items c.make.new.conditions.items c.args.equation.now.left c.in_ok-left.left in
     let first = subst Q c.new-path.ensures.items c.in_ok-left.ensures in
     let made = c.in_ok-left-2.ensures in
-    sides_made c.args.file.now c.args.equation.now c.args.table.now c.requires.table c.has_char0-char0.result _ _ _ _ _
-    c.in_ok-left.left c.in_ok-right.right c.new-conditions.ensures.items first c.in_ok-right.ensures _ made.left
+    sides_made c.args.file.now c.args.equation.now c.args.table.now c.requires.table c.has_char0-char0.result
+    _ _ _ _ _ c.in_ok-left.left c.in_ok-right.right c.new-conditions.ensures.items first c.in_ok-right.ensures _ made.left
     made.right made.fine refl c.has_char0-char0.ensures

@@ -8,6 +8,6 @@ pub returns : goal.returns
 returns c =
     let left = c.in_ok-left.ensures.left in
     let right = c.in_ok-left.ensures.right in
+    let made = c.plus.ensures in
     gives_after (λ (q : Polynomial). q) _ _ _ _ _ c.plus.result c.in_ok-left.ensures.fine
-    (λ i. sum_of (left i) (right i)) (λ i. sum_outcome (left i) (right i)) c.plus.ensures.sum c.plus.ensures.fine
-    c.plus.ensures.refused
+    (λ i. sum_of (left i) (right i)) (λ i. sum_outcome (left i) (right i)) made.sum made.fine made.refused

@@ -8,6 +8,6 @@ pub returns : goal.returns
 returns c =
     let left = c.in_ok-left.ensures.left in
     let right = c.in_ok-left.ensures.right in
+    let made = c.minus.ensures in
     gives_after (λ (q : Polynomial). q) _ _ _ _ _ c.minus.result c.in_ok-left.ensures.fine
-    (λ i. difference_of (left i) (right i)) (λ i. sum_outcome (left i) (right i)) c.minus.ensures.difference c.minus.ensures.fine
-    c.minus.ensures.refused
+    (λ i. difference_of (left i) (right i)) (λ i. sum_outcome (left i) (right i)) made.difference made.fine made.refused

@@ -31,5 +31,5 @@ loop-i-preserved c =
 pub returns : goal.returns
 returns c =
     let es = c.args.list.now.items in
-    c.loop-i.invariant
-    ∙ scaled_all c.args.n c.loop-i.i es (omega (arith, ap length c.loop-i.invariant, length-scaled_to c.args.n c.loop-i.i es))
+    let many = length-scaled_to c.args.n c.loop-i.i es in
+    c.loop-i.invariant ∙ scaled_all c.args.n c.loop-i.i es (omega (arith, ap length c.loop-i.invariant, many))

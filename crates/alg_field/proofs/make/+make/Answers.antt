@@ -1,4 +1,4 @@
-use Rattle.std.proofs.Common.{rules, arith, ◌≡◌, ℕ, List, [], ◌∷◌, ◌++◌, length, refl, sym, ap, subst, ◌∙◌, SFits, to_z-of_z}
+use Rattle.std.proofs.Common.{rules, arith, ◌≡◌, ◌<◌, ℕ, vec_len, List, [], ◌∷◌, ◌++◌, length, refl, sym, ap, subst, ◌∙◌, SFits, to_z-of_z}
 use Rattle.std.specs.Int.{w128}
 use Rattle.std.specs.declared.result.Result.TheVariants.{Ok}
 use Rattle.std.proofs.lemmas.List.{length-append}
@@ -109,8 +109,10 @@ returns-in_ok-image-in-Hom t c =
     let made = subst Q c.in_ok-push-in-Hom.ensures.items image.ensures in
     let pushed : c.make-in-Hom.new.path.items ≡ path ++ c.in-Hom.morphism ∷ [] =
     image.ensures.back ∙ c.in_ok-push-in-Hom.ensures.items in
+    let one = length-append path (c.in-Hom.morphism ∷ []) in
+    let some : 0 < vec_len c.make-in-Hom.new.path = omega (arith, ap length pushed, one) in
     let back : c.pop.new.self.items ≡ path = unpushed path c.pop.new.self.items c.in-Hom.morphism c.pop.result
-    (sym pushed ∙ c.pop.ensures.items) (c.pop.ensures.variant.1 (omega (arith, ap length pushed, length-append path (c.in-Hom.morphism ∷ [])))) in
+    (sym pushed ∙ c.pop.ensures.items) (c.pop.ensures.variant.1 some) in
     part_made c.args.char0 c.args.table.now path c.args.term.now _ _ _ _
     (part-Hom c.args.table.now path _ _ _ _ c.in-Hom.is c.get-in-Hom.ensures) c.requires _ _ _ _ _
     (Ok image.image) made (refl, refl) back

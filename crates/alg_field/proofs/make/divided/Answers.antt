@@ -14,8 +14,9 @@ pub returns : goal.returns
 returns c =
     let a = fraction_of c.args.left in
     let b = fraction_of c.args.right in
+    let t = c.args.denominator.now in
     let P : Bool → Type 0 = λ zero. GivesFraction (frac_quotient nat_cmp (is_unit nat_cmp b.top) a b)
-    (cond zero (FractionOutcome.ZeroDenominator c.args.denominator.now) (of_polynomials (quotient_of_fractions nat_cmp a b)))
+    (cond zero (FractionOutcome.ZeroDenominator t) (of_polynomials (quotient_of_fractions nat_cmp a b)))
     c.ended.result in (
       in_any_case c.ended.result c.in_ok-add_condition.ensures,
       subst P (sym (sym c.is_zero.ensures.test ∙ c.if-is_zero.false)) (c.ended.ensures _ _ c.quotient.ensures),

@@ -67,12 +67,14 @@ number_from c d false e = ap first_coefficient e
 pub number_test : (p : Polynomial) (o : Option ℤ) (d : ℤ) → IsNumber p o → is_zero d ≡ false →
     option_eq int_eq o (Some d) ≡ eq_by_cmp order p (([], d) ∷ [])
 number_test p None d h some =
+    let is = ap (λ z. cond {A = Polynomial} z [] (([], d) ∷ [])) some in
     same_test false (eq_by_cmp order p (([], d) ∷ [])) (λ e. absurd (cc))
-    (λ e. absurd (h d (only_equal order_anti p (([], d) ∷ []) e ∙ sym (ap (λ z. cond {A = Polynomial} z [] (([], d) ∷ [])) some))))
+    (λ e. absurd (h d (only_equal order_anti p (([], d) ∷ []) e ∙ sym is)))
 number_test p (Some c) d h some =
+    let is = ap (λ z. cond {A = Polynomial} z [] (([], d) ∷ [])) some in
     same_test (int_eq c d) (eq_by_cmp order p (([], d) ∷ []))
     (λ e. let same = (Decides-int_eq c d).0 e in
-    passes order_total p (([], d) ∷ []) (h ∙ ap (λ n. term_of [] n) same ∙ ap (λ z. cond {A = Polynomial} z [] (([], d) ∷ [])) some))
+    passes order_total p (([], d) ∷ []) (h ∙ ap (λ n. term_of [] n) same ∙ is))
     (λ e. (Decides-int_eq c d).1 (number_from c d (is_zero c) (sym h ∙ only_equal order_anti p (([], d) ∷ []) e)))
 
 -- what isn't 0 has a norm
@@ -84,5 +86,6 @@ some_number (negsuc n) h = omega arith
 pub norm_some : (p : Polynomial) → IsPoly nat_cmp p → is_nothing p ≡ false → 0 < norm p
 norm_some [] h e = absurd (cc)
 norm_some (e ∷ p) h is =
-    let some = some_number e.1 (first (not (is_zero e.1)) (all_some before integers.amounts p) h.polynomial.canonical.no_none) in
+    let terms = h.polynomial.canonical.no_none in
+    let some = some_number e.1 (first (not (is_zero e.1)) (all_some before integers.amounts p) terms) in
     omega (arith, norm-cons e p, some)
