@@ -15,6 +15,7 @@ pub mod Ending
 pub mod Least
 pub mod Ruled
 pub mod Taken
+pub mod Lists
 pub mod Deciding
 pub mod Ordered
 pub mod Determined
