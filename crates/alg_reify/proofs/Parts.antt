@@ -6,20 +6,21 @@ use Rattle.std.proofs.Common.{refl, sym, ap, subst, ◌∙◌, arith}
 use Rattle.std.proofs.lemmas.List.Elements.{recursion_from_All, All-from_recursion, All-head}
 use Rattle.alg_terms.specs.declared.term.Atom.{Atom}
 use Rattle.alg_terms.specs.declared.term.Term.{Term}
-use Rattle.alg_terms.specs.declared.term.Term.TheVariants.{Var, Int, Neg, Add, Sub, Mul, Div, Pow, Hom}
+use Rattle.alg_terms.specs.declared.term.Term.TheVariants.{Var, Int, Neg, Div, Pow, Hom}
 use Rattle.alg_terms.specs.Limits.{MAX_LITERAL}
 use Rattle.alg_terms.specs.Nodes.{EachNode}
 use Rattle.alg_terms.specs.TermRules.{HasLiteral, IsNoQuotient, HasNoQuotient}
 use Rattle.alg_terms.proofs.BuiltNodes.{EachNode-Neg, EachNode-Div, EachNode-Pow, EachNode-Hom}
 use Rattle.alg_terms.proofs.Views.{Binary, binary, nodes_binary}
-use Rattle.alg_mono.specs.Outcomes.{Outcome, first_breach, sum_outcome, product_outcome, power_outcome}
+use Rattle.alg_mono.specs.Outcomes.{Outcome, first_breach, power_outcome}
 use Rattle.alg_mono.specs.Polynomials.{MAX}
 use Rattle.alg_meaning.specs.PolynomialOf.{poly_of}
 use Rattle.alg_meaning.specs.TermOutcome.{term_outcome}
-use Rattle.alg_meaning.proofs.Built.{term_outcome-Neg, term_outcome-Add, term_outcome-Sub, term_outcome-Mul, term_outcome-Pow, term_outcome-Hom}
+use Rattle.alg_meaning.proofs.Built.{term_outcome-Neg, term_outcome-Add, term_outcome-Sub, term_outcome-Mul, term_outcome-Div, term_outcome-Pow, term_outcome-Hom}
 use Rattle.alg_reify.specs.Table.{leaves}
 use Rattle.alg_reify.specs.Making.{IsOver}
 use Rattle.alg_reify.proofs.AtomsIn.{both_parts}
+use Rattle.alg_reify.proofs.Likes.{own_outcome}
 use Rattle.alg_reify.proofs.Leaves.{leaves_binary, leaves-Var, leaves-Neg, leaves-Pow, leaves-Hom}
 
 -- a term of one part, which stands under the path `inner`: the part is made first, and then what is the node's own
@@ -79,28 +80,27 @@ part-Hom path f t s part e p =
 at_parts : (node : Term → Term → Term) (t a b l r : Term) → t ≡ node a b → l ≡ a → r ≡ b → node l r ≡ t
 at_parts node t a b l r e p q = sym (e ∙ (λ i. node (sym p i) (sym q i)))
 
--- an operation on two parts, where this is what its outcome comes to
-parts_of : (o : Binary) (t a b l r : Term) (own : Outcome) → t ≡ binary o a b → l ≡ a → r ≡ b →
-    term_outcome (binary o l r) ≡ first_breach (term_outcome l) (first_breach (term_outcome r) own) → HasParts t l r own
-parts_of o t a b l r own e p q outcome =
-    let P : Term → Type 0 = λ x. HasParts x l r own in
+-- what an operation on two parts comes to
+outcome_binary : (o : Binary) (l r : Term) →
+    term_outcome (binary o l r) ≡
+    first_breach (term_outcome l) (first_breach (term_outcome r) (own_outcome o (poly_of l) (poly_of r)))
+outcome_binary Binary.Sum l r = term_outcome-Add l r
+outcome_binary Binary.Difference l r = term_outcome-Sub l r
+outcome_binary Binary.Product l r = term_outcome-Mul l r
+outcome_binary Binary.Quotient l r =
+    term_outcome-Div l r ∙ ap (first_breach (term_outcome l)) (nothing_own (term_outcome r))
+
+-- an operation on two parts
+pub parts : (o : Binary) {t a b l r : Term} → t ≡ binary o a b → l ≡ a → r ≡ b →
+    HasParts t l r (own_outcome o (poly_of l) (poly_of r))
+parts o {t = t} {a = a} {b = b} {l = l} {r = r} e p q =
+    let P : Term → Type 0 = λ x. HasParts x l r (own_outcome o (poly_of l) (poly_of r)) in
     subst P (at_parts (binary o) t a b l r e p q) record {
       literals = λ h. let k = (nodes_binary HasLiteral o l r).0 h in (k.1, k.2);
       plain = λ h. let k = (nodes_binary IsNoQuotient o l r).0 h in (k.1, k.2);
       leaves = λ path. leaves_binary path o l r;
-      outcome = outcome;
+      outcome = outcome_binary o l r;
     }
-
--- a sum, a difference and a product
-pub parts-Add : (t a b l r : Term) → t ≡ Add a b → l ≡ a → r ≡ b → HasParts t l r (sum_outcome (poly_of l) (poly_of r))
-parts-Add t a b l r e p q = parts_of Binary.Sum t a b l r _ e p q (term_outcome-Add l r)
-
-pub parts-Sub : (t a b l r : Term) → t ≡ Sub a b → l ≡ a → r ≡ b → HasParts t l r (sum_outcome (poly_of l) (poly_of r))
-parts-Sub t a b l r e p q = parts_of Binary.Difference t a b l r _ e p q (term_outcome-Sub l r)
-
-pub parts-Mul : (t a b l r : Term) → t ≡ Mul a b → l ≡ a → r ≡ b →
-    HasParts t l r (product_outcome (poly_of l ∷ poly_of r ∷ []))
-parts-Mul t a b l r e p q = parts_of Binary.Product t a b l r _ e p q (term_outcome-Mul l r)
 
 -- ---- what is asked of a term is so of its parts
 pub over_part : (atoms : List Atom) (path inner : List ℕ) (t part : Term) (own : Outcome) →
@@ -119,7 +119,7 @@ pub over_inner : (atoms : List Atom) (path inner : List ℕ) (t part : Term) (ow
 over_inner atoms path inner t part own h over pushed e =
     let P : List ℕ → Type 0 = λ x. IsOver atoms x part in subst P (sym e) (over_part atoms path inner t part own h over)
 
-module _ (atoms : List Atom) (path : List ℕ) (t l r : Term) (own : Outcome) (h : HasParts t l r own)
+module _ {atoms : List Atom} {path : List ℕ} {t l r : Term} {own : Outcome} (h : HasParts t l r own)
     (over : IsOver atoms path t) where
   -- the atoms of both parts
   held_parts : All (Contains atoms) (leaves path l) × All (Contains atoms) (leaves path r)
@@ -139,8 +139,8 @@ module _ (atoms : List Atom) (path : List ℕ) (t l r : Term) (own : Outcome) (h
       record { literals = (h.literals over.literals).1; plain = (h.plain over.plain).1; held = held_parts.1 }
 
   -- the path is as before where the right part is made
-  pub over_right_after : (after : List ℕ) → after ≡ path → IsOver atoms after r
-  over_right_after after e = let P : List ℕ → Type 0 = λ x. IsOver atoms x r in subst P (sym e) over_right
+  pub over_right_after : {after : List ℕ} → after ≡ path → IsOver atoms after r
+  over_right_after e = let P : List ℕ → Type 0 = λ x. IsOver atoms x r in subst P (sym e) over_right
 
 -- what the rule on literals says
 bounds : (n : ℤ) → EachNode HasLiteral (Int n) → (pos 0 ≤ℤ n) × (n ≤ℤ MAX_LITERAL)
