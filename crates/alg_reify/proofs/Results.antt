@@ -7,7 +7,7 @@ use Rattle.std.proofs.Common.{sym, ap, subst, ◌∙◌}
 use Rattle.alg_terms.specs.declared.term.Atom.{Atom}
 use Rattle.alg_terms.specs.declared.term.Term.{Term}
 use Rattle.alg_terms.specs.declared.term.Term.TheVariants.{Var, Int, Neg, Pow, Hom}
-use Rattle.alg_terms.proofs.Views.{Binary, binary}
+use Rattle.alg_terms.proofs.Views.{Leaf, Unary, Binary, binary}
 use Rattle.alg_mono.specs.declared.ends.Overrun.{Overrun}
 use Rattle.alg_mono.specs.declared.ends.Overrun.TheVariants.{Range, Degree, NoMemory}
 use Rattle.alg_mono.specs.Outcomes.{Outcome, first_breach, power_outcome}
@@ -16,12 +16,12 @@ use Rattle.alg_mono.specs.Refusals.{Tells}
 use Rattle.alg_mono.specs.NumberedPolynomials.{atom_of, term_of, power_of}
 use Rattle.alg_meaning.specs.PolynomialOf.{poly_of}
 use Rattle.alg_meaning.specs.TermOutcome.{term_outcome}
-use Rattle.alg_meaning.proofs.Built.{term_outcome-Var, term_outcome-Int}
+use Rattle.alg_meaning.proofs.Built.{binary_outcome, term_outcome_leaf}
 use Rattle.alg_reify.specs.Numbered.{number_of}
 use Rattle.alg_reify.specs.Making.{Makes, IsOver}
-use Rattle.alg_reify.proofs.Likes.{own_outcome, own_like, power_like}
+use Rattle.alg_reify.proofs.Likes.{own_like, power_like}
 use Rattle.alg_reify.proofs.Made.{made, operation, like_made, made_binary, made-Var, made-Int, made-Neg, made-Pow, made-Hom}
-use Rattle.alg_reify.proofs.Parts.{HasPart, HasParts, over_part, over_left, over_right, part-Neg, part-Pow, part-Hom, parts}
+use Rattle.alg_reify.proofs.Parts.{HasPart, HasParts, over_part, over_left, over_right, part, parts}
 
 -- what a call says one by one
 pub joined : {Q : Type 0} (map : Q → PolyOver ℕ) (r : Result Q Overrun) (p x : PolyOver ℕ) (o u : Outcome) →
@@ -103,13 +103,13 @@ module _ (o : Binary) (atoms : List Atom) {path after : List ℕ} {t x y a b : T
   at_path = same_path atoms after path b q back made_right
 
   -- the operation's own outcome on numbers is the term's
-  own : own_outcome o p q ≡ term_outcome t
+  own : binary_outcome o p q ≡ term_outcome t
   own =
       let h = parts o e left right in
-      (λ i. own_outcome o (made_left.0 i) (at_path.0 i))
+      (λ i. binary_outcome o (made_left.0 i) (at_path.0 i))
       ∙ sym (own_like (poly_of a) (made atoms path a) (like_made atoms path a (over_left h over).held)
       (poly_of b) (made atoms path b) (like_made atoms path b (over_right h over).held) o)
-      ∙ after_both t a b (own_outcome o (poly_of a) (poly_of b)) h made_left.1 at_path.1
+      ∙ after_both t a b (binary_outcome o (poly_of a) (poly_of b)) h made_left.1 at_path.1
 
   -- the operation on both polynomials gives that of the term
   both : operation o p q ≡ made atoms path t
@@ -119,43 +119,43 @@ module _ (o : Binary) (atoms : List Atom) {path after : List ℕ} {t x y a b : T
 
   -- the polynomial was made, or what broke a rule is told
   pub binary_made : {Q : Type 0} (map : Q → PolyOver ℕ) (r : Result Q Overrun) →
-      IfOk r (λ s. map s ≡ operation o p q) → IfOk r (λ s. own_outcome o p q ≡ Outcome.Fine) →
-      IfErr r (λ e. Tells e (own_outcome o p q)) → Makes map (made atoms path t) (term_outcome t) r
+      IfOk r (λ s. map s ≡ operation o p q) → IfOk r (λ s. binary_outcome o p q ≡ Outcome.Fine) →
+      IfErr r (λ e. Tells e (binary_outcome o p q)) → Makes map (made atoms path t) (term_outcome t) r
   binary_made map r is fine refused =
-      joined map r (operation o p q) (made atoms path t) (own_outcome o p q) (term_outcome t) is fine refused both own
+      joined map r (operation o p q) (made atoms path t) (binary_outcome o p q) (term_outcome t) is fine refused both own
 
-module _ (atoms : List Atom) (path : List ℕ) (t x part : Term) (p : PolyOver ℕ) (is : part ≡ x) where
+module _ (atoms : List Atom) (path : List ℕ) (t x inner : Term) (p : PolyOver ℕ) (is : inner ≡ x) where
   -- the power
   pub power_made : {Q : Type 0} (map : Q → PolyOver ℕ) (n : ℕ) (r : Result Q Overrun) → IsOver atoms path t →
-      IsMade atoms path part p → t ≡ Pow x n →
+      IsMade atoms path inner p → t ≡ Pow x n →
       IfOk r (λ s. map s ≡ power_of p n) → IfOk r (λ s. power_outcome p n ≡ Outcome.Fine) →
       IfErr r (λ e. Tells e (power_outcome p n)) → Makes map (made atoms path t) (term_outcome t) r
   power_made map n r over h e made_is fine refused =
-      let own = power_outcome (poly_of part) n in
-      let has = part-Pow path t x part n e is in
+      let own = power_outcome (poly_of inner) n in
+      let has = part (Unary.Power n) path e is in
       joined map r (power_of p n) (made atoms path t) (power_outcome p n) (term_outcome t) made_is fine refused
-      (ap (λ q. power_of q n) h.0 ∙ sym (made-Pow atoms path part n)
+      (ap (λ q. power_of q n) h.0 ∙ sym (made-Pow atoms path inner n)
       ∙ ap (made atoms path) (sym (e ∙ ap (λ s. Pow s n) (sym is))))
       (ap (λ q. power_outcome q n) h.0
-      ∙ sym (power_like (poly_of part) (made atoms path part)
-      (like_made atoms path part (over_part atoms path path t part own has over).held) n)
-      ∙ after_part t part path path own has h.1)
+      ∙ sym (power_like (poly_of inner) (made atoms path inner)
+      (like_made atoms path inner (over_part atoms path path t inner own has over).held) n)
+      ∙ after_part t inner path path own has h.1)
 
   -- the opposite
-  pub opposite_made : (s : PolyOver ℕ) → IsMade atoms path part p → t ≡ Neg x → s ≡ poly_neg p → IsMade atoms path t s
+  pub opposite_made : (s : PolyOver ℕ) → IsMade atoms path inner p → t ≡ Neg x → s ≡ poly_neg p → IsMade atoms path t s
   opposite_made s h e made_is = (
-    made_is ∙ ap (λ q. poly_neg q) h.0 ∙ sym (made-Neg atoms path part)
+    made_is ∙ ap (λ q. poly_neg q) h.0 ∙ sym (made-Neg atoms path inner)
         ∙ ap (made atoms path) (sym (e ∙ ap Neg (sym is))),
-    sym (after_part t part path path Outcome.Fine (part-Neg path t x part e is) h.1),
+    sym (after_part t inner path path Outcome.Fine (part Unary.Opposite path e is) h.1),
   )
 
   -- the image under a morphism
-  pub image_made : (f : ℕ) (inner : List ℕ) → inner ≡ path ++ f ∷ [] → IsMade atoms inner part p → t ≡ Hom f x →
+  pub image_made : (f : ℕ) (below : List ℕ) → below ≡ path ++ f ∷ [] → IsMade atoms below inner p → t ≡ Hom f x →
       IsMade atoms path t p
-  image_made f inner down h e =
-      let at = same_path atoms inner (path ++ f ∷ []) part p down h in (
-        at.0 ∙ sym (made-Hom atoms path f part) ∙ ap (made atoms path) (sym (e ∙ ap (Hom f) (sym is))),
-        sym (after_part t part path (path ++ f ∷ []) Outcome.Fine (part-Hom path f t x part e is) h.1),
+  image_made f below down h e =
+      let at = same_path atoms below (path ++ f ∷ []) inner p down h in (
+        at.0 ∙ sym (made-Hom atoms path f inner) ∙ ap (made atoms path) (sym (e ∙ ap (Hom f) (sym is))),
+        sym (after_part t inner path (path ++ f ∷ []) Outcome.Fine (part (Unary.Image f) path e is) h.1),
       )
 
 -- a constant and an atom
@@ -163,7 +163,7 @@ pub constant_made : (atoms : List Atom) (path : List ℕ) (t : Term) (n : ℤ) (
     p ≡ term_of [] n →
     IsMade atoms path t p
 constant_made atoms path t n p e is =
-    (is ∙ sym (made-Int atoms path n) ∙ ap (made atoms path) (sym e), ap term_outcome e ∙ term_outcome-Int n)
+    (is ∙ sym (made-Int atoms path n) ∙ ap (made atoms path) (sym e), ap term_outcome e ∙ term_outcome_leaf (Leaf.Literal n))
 
 -- an atom
 pub atom_made : (atoms : List Atom) (path same : List ℕ) (t : Term) (k : ℕ) (p : PolyOver ℕ) → t ≡ Var k → same ≡ path →
@@ -171,5 +171,5 @@ pub atom_made : (atoms : List Atom) (path same : List ℕ) (t : Term) (k : ℕ) 
 atom_made atoms path same t k p e s is = (
   is ∙ ap (λ x. atom_of (number_of atoms (record { path = x; var = k }))) s ∙ sym (made-Var atoms path k)
       ∙ ap (made atoms path) (sym e),
-  ap term_outcome e ∙ term_outcome-Var k,
+  ap term_outcome e ∙ term_outcome_leaf (Leaf.Variable k),
 )

@@ -1,8 +1,8 @@
 use Rattle.std.proofs.Common.{rules, refl, SFits, to_z-of_z}
 use Rattle.std.specs.Int.{w128}
 use Rattle.alg_terms.specs.declared.term.Term.TheViews.{the_lemmas}
-use Rattle.alg_terms.proofs.Views.{Binary}
-use Rattle.alg_reify.proofs.Parts.{part-Neg, part-Pow, part-Hom, parts, over_part, over_inner, over_left, over_right_after, literal, divides, held_atom}
+use Rattle.alg_terms.proofs.Views.{Unary, Binary}
+use Rattle.alg_reify.proofs.Parts.{part, parts, over_part, over_inner, over_left, over_right_after, literal, divides, held_atom}
 use Rattle.alg_reify.proofs.Results.{part_failed, left_failed, right_failed, binary_made, power_made, opposite_made, image_made, constant_made, atom_made}
 use Rattle.alg_reify.proofs.making.+make.Goals as goal
 
@@ -37,14 +37,14 @@ make-requires g t c =
       (
         h,
         over_part c.args.table.now path path _ _ _
-            (part-Neg path _ _ _ c.in-Neg.is c.get.ensures) c.requires,
+            (part Unary.Opposite path c.in-Neg.is c.get.ensures) c.requires,
       ),
     )
 
 pub returns-in_err-part-in-Neg-clause-makes : goal.returns-in_err-part-in-Neg-clause-makes
 returns-in_err-part-in-Neg-clause-makes g t c =
     let path = c.args.path.now.items in
-    part_failed g.P.PolynomialForm.map _ _ _ _ path path _ _ (part-Neg path _ _ _ c.in-Neg.is c.get.ensures)
+    part_failed g.P.PolynomialForm.map _ _ _ _ path path _ _ (part Unary.Opposite path c.in-Neg.is c.get.ensures)
     c.from_residual-in_err-part-in-Neg.ensures.1
     c.in_err-part-in-Neg.ensures.makes
 
@@ -62,14 +62,14 @@ make-requires-in-Pow g t c =
       (
         h,
         over_part c.args.table.now path path _ _ _
-            (part-Pow path _ _ _ _ c.in-Pow.is c.get-in-Pow.ensures) c.requires,
+            (part (Unary.Power _) path c.in-Pow.is c.get-in-Pow.ensures) c.requires,
       ),
     )
 
 pub returns-in_err-part-in-Pow-clause-makes : goal.returns-in_err-part-in-Pow-clause-makes
 returns-in_err-part-in-Pow-clause-makes g t c =
     let path = c.args.path.now.items in
-    part_failed g.P.PolynomialForm.map _ _ _ _ path path _ _ (part-Pow path _ _ _ _ c.in-Pow.is c.get-in-Pow.ensures)
+    part_failed g.P.PolynomialForm.map _ _ _ _ path path _ _ (part (Unary.Power _) path c.in-Pow.is c.get-in-Pow.ensures)
     c.from_residual-in_err-part-in-Pow.ensures.1 c.in_err-part-in-Pow.ensures.makes
 
 pub returns-in_ok-part-in-Pow-clause-makes : goal.returns-in_ok-part-in-Pow-clause-makes
@@ -86,7 +86,7 @@ make-requires-in-Hom g t c =
       search (rules, the_lemmas),
       (
         h,
-        over_inner c.args.table.now path _ _ _ _ (part-Hom path _ _ _ _ c.in-Hom.is c.get-in-Hom.ensures) c.requires _
+        over_inner c.args.table.now path _ _ _ _ (part (Unary.Image _) path c.in-Hom.is c.get-in-Hom.ensures) c.requires _
             c.in_ok-push-in-Hom.ensures.items,
       ),
     )
@@ -94,7 +94,7 @@ make-requires-in-Hom g t c =
 pub returns-in_err-image-in-Hom-clause-makes : goal.returns-in_err-image-in-Hom-clause-makes
 returns-in_err-image-in-Hom-clause-makes g t c =
     let path = c.args.path.now.items in
-    part_failed g.P.PolynomialForm.map _ _ _ _ path _ _ _ (part-Hom path _ _ _ _ c.in-Hom.is c.get-in-Hom.ensures)
+    part_failed g.P.PolynomialForm.map _ _ _ _ path _ _ _ (part (Unary.Image _) path c.in-Hom.is c.get-in-Hom.ensures)
     c.from_residual-in_err-image-in-Hom.ensures.1 c.in_err-image-in-Hom.ensures.makes
 
 pub returns-in_ok-image-in-Hom-clause-makes : goal.returns-in_ok-image-in-Hom-clause-makes
