@@ -2,7 +2,7 @@
 use Rattle.std.specs.Prelude.{◌≡◌, ℕ, zero, suc, Bool, true, false, not, cond, List, [], ◌∷◌, ◌++◌, filter, flat_map, All, Contains, length, ◌<◌, slice_index_or}
 use Rattle.std.specs.List.{AllByRecursion as ByRecursion}
 use Rattle.std.proofs.Common.{refl, sym, ap, subst, ◌∙◌, arith}
-use Rattle.std.proofs.lemmas.List.Elements.{recursion_from_All, All-from_recursion, All-weaker}
+use Rattle.std.proofs.lemmas.List.Elements.{recursion_from_All, All-from_recursion, All-nil, All-cons, All-weaker}
 use Rattle.alg_terms.specs.declared.term.Atom.{Atom}
 use Rattle.alg_terms.specs.declared.file.File.{File}
 use Rattle.alg_terms.specs.declared.goals.Equation.{Equation}
@@ -53,6 +53,14 @@ once_holds (a ∷ xs) = (
       (All-from_recursion (Contains (each_once atom_eq xs)) xs (once_holds xs))),
 )
 
+-- what holds of each member of all lists holds of each member of each
+each_part : {X Y : Type 0} (P : Y → Type 0) (f : X → List Y) (xs : List X) → ByRecursion P (flat_map f xs) →
+    All (λ x. All P (f x)) xs
+each_part P f [] h = All-nil (λ x. All P (f x))
+each_part P f (x ∷ xs) h =
+    let parts = both_parts P (f x) (flat_map f xs) h in
+    All-cons (λ x. All P (f x)) x xs (All-from_recursion P (f x) parts.0) (each_part P f xs parts.1)
+
 module _ (file : File) (e : Equation) (uses : List Use) where
   -- the atoms of both sides
   both_sides : ByRecursion (Contains (table file e uses)) (leaves [] e.left)
@@ -69,3 +77,18 @@ module _ (file : File) (e : Equation) (uses : List Use) where
 
   pub held_right : All (Contains (table file e uses)) (leaves [] e.right)
   held_right = All-from_recursion (Contains (table file e uses)) (leaves [] e.right) both_sides.1
+
+  -- and those of each used hypothesis under its path
+  pub held_uses : All (λ u. All (Contains (table file e uses)) (use_leaves file u)) uses
+  held_uses =
+      let P = Contains (table file e uses) in
+      let rest = flat_map (use_leaves file) uses in
+      each_part P (use_leaves file) uses
+      (both_parts P (equation_leaves [] e) rest (once_holds (equation_leaves [] e ++ rest))).1
+
+  pub held_sides : All (Contains (table file e uses)) (equation_leaves [] e)
+  held_sides =
+      let P = Contains (table file e uses) in
+      let rest = flat_map (use_leaves file) uses in
+      All-from_recursion P (equation_leaves [] e)
+      (both_parts P (equation_leaves [] e) rest (once_holds (equation_leaves [] e ++ rest))).0

@@ -23,6 +23,7 @@ pub mod FractionsUnder
 pub mod Numbering
 pub mod Once
 pub mod Parts
+pub mod Prepared
 pub mod Ranges
 pub mod RenamedFractions
 pub mod RenamedMaps

@@ -105,7 +105,7 @@ unfolding below_first without_first
 comes_back f a = refl
 
 -- a path keeps norm, degree and zero
-like_along : (path : List ℕ) (p : Polynomial) → IsPolynomial atom_cmp integers p → IsLike p (poly_along path p)
+pub like_along : (path : List ℕ) (p : Polynomial) → IsPolynomial atom_cmp integers p → IsLike p (poly_along path p)
 like_along [] p is = record { norm = refl; degree = refl; nothing = refl }
 like_along (f ∷ path) p is =
     let q = poly_along path p in

@@ -31,7 +31,7 @@ joined map (Ok q) p x o u is fine refused same other = (is ∙ same, sym other �
 joined map (Err e) p x o u is fine refused same other = subst (Tells e) other refused
 
 -- a rule that is broken first is the one that is told
-first_told : (e : Overrun) (o later : Outcome) → Tells e o → Tells e (first_breach o later)
+pub first_told : (e : Overrun) (o later : Outcome) → Tells e o → Tells e (first_breach o later)
 first_told Range o later h = ap (λ x. first_breach x later) h
 first_told Degree o later h = ap (λ x. first_breach x later) h
 first_told NoMemory o later h = tt

@@ -7,6 +7,7 @@ pub mod FractionsUnder
 pub mod Making
 pub mod RingVerdict
 pub mod FieldVerdict
+pub mod Preparing
 pub mod FieldLaws
 pub mod Stops
 pub mod Laws

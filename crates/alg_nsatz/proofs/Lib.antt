@@ -1,0 +1,8 @@
+pub mod Bounds
+pub mod Factors
+pub mod Found
+pub mod Made
+pub mod NormsSome
+pub mod OneVerdict
+pub mod Tasks
+pub mod Turns

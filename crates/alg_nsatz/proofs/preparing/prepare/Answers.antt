@@ -1,0 +1,11 @@
+use Rattle.std.proofs.Common.{sym, subst, ◌∙◌, ap, get_or, List}
+use Rattle.alg_terms.specs.declared.goals.Goal.{Goal}
+use Rattle.alg_terms.specs.GoalRules.{IsGoal}
+use Rattle.alg_nsatz.proofs.preparing.prepare.Goals as goal
+
+pub prepare_goal-requires-clause-goal : goal.prepare_goal-requires-clause-goal
+prepare_goal-requires-clause-goal c =
+    let x = c.index-items-goal.result in
+    subst (IsGoal c.args.file.now)
+    (sym (c.index-items-goal.is ∙ ap (λ (l : List Goal). get_or l c.args.goal x) c.items.ensures))
+    (c.requires.valid.goals c.args.goal x c.requires.there)
