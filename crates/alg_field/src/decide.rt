@@ -53,8 +53,8 @@ struct Sides {
 /// `Atoms` comes exactly where the equation has more than 1,000 atoms. Else the nodes of the left side
 /// and then of the right are taken in postorder: the first that divides by zero, or breaks a rule on
 /// norms or degrees, gives the answer `ZeroDenominator`, or `Range` or `Degree`; so do both cleared
-/// numerators after them. At one node `Range` comes before `Degree`, and its bounds are tested before
-/// its products are made.
+/// numerators after them. At one node `Range` comes before `Degree`. Each product is made only after
+/// its norm and degree were bounded, and the recursion is as deep as the terms.
 pub fn decide_field(alloc: Global, file: &File, equation: &Equation) -> Result<FieldDecision, Stop>
     requires { IsEquation file.now equation.now }
     ensures answer { IfOk result (λ d. IsFieldVerdict file.now equation.now (verdict_of d.answer)) }
