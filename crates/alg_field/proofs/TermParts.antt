@@ -14,7 +14,7 @@ use Rattle.alg_meaning.specs.FractionOutcome.{FractionOutcome, first_not_fine, f
 use Rattle.alg_meaning.specs.FractionRules.{power_of_fraction}
 use Rattle.alg_meaning.specs.Fractions.{node_frac, frac, is_unit}
 use Rattle.alg_meaning.specs.FractionsOver as over
-use Rattle.alg_meaning.specs.FractionsOver.{FractionOver, is_constant, frac_opposite, frac_power, frac_quotient}
+use Rattle.alg_meaning.specs.FractionsOver.{FractionOver, frac_opposite, frac_power, frac_quotient}
 use Rattle.alg_meaning.proofs.Built.{unary_fraction_outcome, binary_fraction_outcome, divisors, denominators_unary, denominators_binary, frac_outcome_unary, frac_outcome_binary}
 use Rattle.alg_reify.specs.FractionsUnder.{numbered_along, numbered_frac_along, made_fraction, IsHeld}
 use Rattle.alg_reify.specs.Numbered.{numbered}

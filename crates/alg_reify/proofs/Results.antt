@@ -122,7 +122,8 @@ module _ (o : Binary) (atoms : List Atom) {path after : List ℕ} {t x y a b : T
       IfOk r (λ s. map s ≡ operation o p q) → IfOk r (λ s. binary_outcome o p q ≡ Outcome.Fine) →
       IfErr r (λ e. Tells e (binary_outcome o p q)) → Makes map (made atoms path t) (term_outcome t) r
   binary_made map r is fine refused =
-      joined map r (operation o p q) (made atoms path t) (binary_outcome o p q) (term_outcome t) is fine refused both own
+      joined map r (operation o p q) (made atoms path t) (binary_outcome o p q)
+      (term_outcome t) is fine refused both own
 
 module _ (atoms : List Atom) (path : List ℕ) (t x inner : Term) (p : PolyOver ℕ) (is : inner ≡ x) where
   -- the power
@@ -162,8 +163,11 @@ module _ (atoms : List Atom) (path : List ℕ) (t x inner : Term) (p : PolyOver 
 pub constant_made : (atoms : List Atom) (path : List ℕ) (t : Term) (n : ℤ) (p : PolyOver ℕ) → t ≡ Int n →
     p ≡ term_of [] n →
     IsMade atoms path t p
-constant_made atoms path t n p e is =
-    (is ∙ sym (made-Int atoms path n) ∙ ap (made atoms path) (sym e), ap term_outcome e ∙ term_outcome_leaf (Leaf.Literal n))
+constant_made atoms path t n p e is = (
+  is ∙ sym (made-Int atoms path n) ∙ ap (made atoms path) (sym e),
+  ap term_outcome e ∙ term_outcome_leaf
+      (Leaf.Literal n),
+)
 
 -- an atom
 pub atom_made : (atoms : List Atom) (path same : List ℕ) (t : Term) (k : ℕ) (p : PolyOver ℕ) → t ≡ Var k → same ≡ path →

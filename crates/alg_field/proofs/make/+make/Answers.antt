@@ -72,14 +72,16 @@ returns-in_err-part-in-Pow t c =
     let path = c.args.path.now.items in
     handed_on c.args.char0 c.args.table.now path c.args.term.now _ _ _ _ _ c.from_residual-in_err-part-in-Pow.ensures.1
     (part_failed c.args.char0 c.args.table.now path c.args.term.now path _ _ _
-    (part c.args.table.now path (Unary.Power _) c.in-Pow.is c.get-in-Pow.ensures) c.requires _ c.in_err-part-in-Pow.ensures)
+    (part c.args.table.now path (Unary.Power _) c.in-Pow.is c.get-in-Pow.ensures) c.requires _
+    c.in_err-part-in-Pow.ensures)
 
 pub returns-in_ok-part-in-Pow : goal.returns-in_ok-part-in-Pow
 returns-in_ok-part-in-Pow t c =
     let path = c.args.path.now.items in
     let made = c.in_ok-part-in-Pow.ensures in
     part_made c.args.char0 c.args.table.now path c.args.term.now path _ _ _
-    (part c.args.table.now path (Unary.Power _) c.in-Pow.is c.get-in-Pow.ensures) c.requires _ _ _ _ _ c.ended.result made
+    (part c.args.table.now path (Unary.Power _) c.in-Pow.is c.get-in-Pow.ensures) c.requires _ _ _ _ _ c.ended.result
+    made
     (c.ended.ensures _ _ c.power.ensures) made.back
 
 -- an image

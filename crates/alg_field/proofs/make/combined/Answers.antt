@@ -33,4 +33,5 @@ pub returns-in-Div : goal.returns-in-Div
 returns-in-Div c =
     let P : Operation → Type 0 = λ op. Combines c.args.char0 op (fraction_of c.args.left) (fraction_of c.args.right)
     c.args.conditions.now.items c.divided.new.conditions.items c.divided.result in
-    subst P (ap Operation.Quotient c.get.ensures ∙ sym (ap operation c.in-Div.is ∙ operation_binary Binary.Quotient _ _)) c.divided.ensures
+    subst P (ap Operation.Quotient c.get.ensures ∙ sym (ap operation c.in-Div.is
+    ∙ operation_binary Binary.Quotient _ _)) c.divided.ensures

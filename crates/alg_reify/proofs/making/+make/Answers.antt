@@ -69,7 +69,8 @@ make-requires-in-Pow g t c =
 pub returns-in_err-part-in-Pow-clause-makes : goal.returns-in_err-part-in-Pow-clause-makes
 returns-in_err-part-in-Pow-clause-makes g t c =
     let path = c.args.path.now.items in
-    part_failed g.P.PolynomialForm.map _ _ _ _ path path _ _ (part (Unary.Power _) path c.in-Pow.is c.get-in-Pow.ensures)
+    part_failed g.P.PolynomialForm.map _ _ _ _ path path _ _
+    (part (Unary.Power _) path c.in-Pow.is c.get-in-Pow.ensures)
     c.from_residual-in_err-part-in-Pow.ensures.1 c.in_err-part-in-Pow.ensures.makes
 
 pub returns-in_ok-part-in-Pow-clause-makes : goal.returns-in_ok-part-in-Pow-clause-makes
@@ -86,7 +87,8 @@ make-requires-in-Hom g t c =
       search (rules, the_lemmas),
       (
         h,
-        over_inner c.args.table.now path _ _ _ _ (part (Unary.Image _) path c.in-Hom.is c.get-in-Hom.ensures) c.requires _
+        over_inner c.args.table.now path _ _ _ _ (part (Unary.Image _) path c.in-Hom.is c.get-in-Hom.ensures)
+            c.requires _
             c.in_ok-push-in-Hom.ensures.items,
       ),
     )
