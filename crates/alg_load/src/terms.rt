@@ -1,4 +1,4 @@
-//! Terms of two parts, a boxed part for each.
+//! Sums, products, quotients and squares of terms.
 
 ghost use Rattle.std.specs.Prelude.{◌≡◌, IfOk};
 ghost use Rattle.alg_terms.specs.declared.term.Term.TheVariants as Term;
