@@ -1,0 +1,3 @@
+pub mod EachGoal
+pub mod Ordered
+pub mod Validity
