@@ -1,5 +1,5 @@
 -- Lists of items that lead from a state to a state, each item from one state to at most one.
-use Rattle.std.specs.Prelude.{◌≡◌, ℕ, suc, List, [], ◌∷◌, ◌++◌, length}
+use Rattle.std.specs.Prelude.{◌≡◌, suc, List, [], ◌∷◌, ◌++◌, length}
 use Rattle.std.proofs.Common.{get_or, drop, refl, sym, ap, subst, ◌∙◌}
 
 module _ {S I : Type 0} (Leads : S → I → S → Type 0) where

@@ -1,6 +1,6 @@
 -- What a certificate comes to, from what following its lines and its steps comes to.
 use Rattle.std.specs.Prelude.{◌≡◌, ◌≢◌, ℕ, suc, ◌+◌, ◌<◌, List, [], ◌∷◌, ◌++◌, Result, Ok, Err, IfErr, length}
-use Rattle.std.proofs.Common.{get_or, take, drop, refl, sym, subst, ◌∙◌, arith}
+use Rattle.std.proofs.Common.{get_or, take, drop, sym, subst, ◌∙◌, arith}
 use Rattle.std.proofs.Math.Seq.{split_at}
 use Rattle.std.proofs.lemmas.List.{length-take-le}
 use Rattle.alg_mono.specs.NumberedPolynomials.{Polynomial, power_of}
@@ -76,7 +76,8 @@ module _ (hyps : List Polynomial) (g : Polynomial) (cert : Cert) where
           subst (λ (n : ℕ). Accepting hyps g cert (Bad n)) (sym b.number)
           (bad_step b.before b.after b.step all b.remainder begins b.split (lines, b.good) b.bad)
 
-      pub ends : (last : Polynomial) → FollowsSteps all first steps n (Followed.To last) → last ≡ [] → IsGood hyps g cert
+      pub ends : (last : Polynomial) → FollowsSteps all first steps n (Followed.To last) → last ≡ [] →
+          IsGood hyps g cert
       ends last h zero =
           good all begins (
             lines,

@@ -30,7 +30,8 @@ makes_any a c m p b d n q left right (Err e) is fine told =
 
 module _ (lines : List Polynomial) (l : Line) (first : IsOneOf lines l.i) (second : IsOneOf lines l.j) where
   as_line : (o : Option Polynomial) →
-      IsQuotient (combine_outcome l.a l.m (line_at lines l.i) l.b l.n (line_at lines l.j)) (line_combination lines l) l.d o →
+      IsQuotient (combine_outcome l.a l.m (line_at lines l.i) l.b l.n (line_at lines l.j))
+      (line_combination lines l) l.d o →
       IsNextLine lines l o
   as_line (Some new) h = (record { first = first; second = second; fine = h.0; exact = h.1 }, (h.2, h.3))
   as_line None h = λ g. h g.fine g.exact

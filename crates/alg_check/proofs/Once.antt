@@ -17,7 +17,8 @@ use Rattle.alg_lines.specs.Accepting.{IsGoodLine, IsGoodStep, AreLines, AreSteps
 use Rattle.alg_check.proofs.Chains.{Chain, CanTake, IsOnce, chain_once, each_taken, first_place}
 
 -- what d times is one polynomial is one
-one_quotient : (d : ℤ) (sum p q : Polynomial) → pos 1 ≤ℤ d → IsPolynomial nat_cmp integers p → multiple_of d [] p ≡ sum →
+one_quotient : (d : ℤ) (sum p q : Polynomial) → pos 1 ≤ℤ d → IsPolynomial nat_cmp integers p →
+    multiple_of d [] p ≡ sum →
     IsPolynomial nat_cmp integers q → multiple_of d [] q ≡ sum → p ≡ q
 one_quotient d sum p q low ps pe qs qe =
     let some : d ≢ pos 0 = λ e. omega (arith, ints) in

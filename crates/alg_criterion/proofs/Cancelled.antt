@@ -135,7 +135,7 @@ module _ (b : ℕ) where
       (λ q. let e = exponent-lcm nat_cmp_total nat_cmp-IsAntisymmetric q f g hg.canonical in
       let x = exponent-over q b (lcm nat_cmp f g) g hl in let y = exponent-over q b f g hf in grind (arith, e, x, y))
 
-  -- rule 7
+  -- PairIsTaken
   pub s_polynomial_is : (f g : Led Monomial) → IsLine falling mono_times (IsWithin b) f →
       IsLine falling mono_times (IsWithin b) g →
       IsSPolynomial falling mono_times mono_over (IsWithin b) f g (s_polynomial (whole f) (whole g)).poly

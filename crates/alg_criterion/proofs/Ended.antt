@@ -27,8 +27,8 @@ module _ {M : Type 0} {cmp : M → M → Ordering} {times over : M → M → M} 
         let done : (x y : Led M) → IsLine cmp times Ok x → IsLine cmp times Ok y → Half L s x y →
         Spans cmp times Ok (In L s) (Under cmp times Ok (w_of L x y)) (s_of L x y) = λ x y jx jy h. elim h [
           | inl a ↦ absurd (subst (λ ps. Has (x, y) ps) o.pairs a)
-          | inr a ↦ cleared_idle L (In L s) i.line (Under cmp times Ok (w_of L x y)) (s_of L x y) (pair_task L x y jx jy)
-              s.current o.current a
+          | inr a ↦ cleared_idle L (In L s) i.line (Under cmp times Ok (w_of L x y)) (s_of L x y)
+              (pair_task L x y jx jy) s.current o.current a
         ] in
         elim (i.pairs f g hf hg) [
           | inl h ↦ done f g (i.line f hf) (i.line g hg) h
@@ -60,7 +60,8 @@ module _ {M : Type 0} {cmp : M → M → Ordering} {times over : M → M → M} 
             i.line over L.ok_over L.lcm_least (all_below s r o)
 
         sums : Every (λ h. Spans cmp times Ok (In L s) Any h) hyps
-        sums = every_map {P = λ h. Spans cmp times Ok (In L s) (LowOf cmp h) h} {Q = λ h. Spans cmp times Ok (In L s) Any h}
+        sums = every_map {P = λ h. Spans cmp times Ok (In L s) (LowOf cmp h) h}
+            {Q = λ h. Spans cmp times Ok (In L s) Any h}
             (λ h x. record {
               multiple = x.multiple;
               some = x.some;

@@ -140,7 +140,8 @@ module _ {M : Type 0} {cmp : M → M → Ordering} {times over : M → M → M} 
               | inl q ↦ inl (inr (inl (subst (λ x. Spans cmp times Ok (In L t) (Under cmp times Ok (w_of L x g))
                   (s_of L x g)) (sym p) (subst (λ x. Spans cmp times Ok (In L t) (Under cmp times Ok (w_of L l x))
                   (s_of L l x)) (sym q) (spans_self L (In L t) (Under cmp times Ok (w_of L l l)) l)))))
-              | inr q ↦ subst (λ x. Half L t x g ⊎ Half L t g x) (sym p) (elim (meet g q) [ inl a ↦ inr a | inr a ↦ inl a ])
+              | inr q ↦ subst (λ x. Half L t x g ⊎ Half L t g x) (sym p)
+                  (elim (meet g q) [ inl a ↦ inr a | inr a ↦ inl a ])
             ]
             | inr p ↦ elim (split g hg) [
               | inl q ↦ subst (λ x. Half L t f x ⊎ Half L t x f) (sym q) (meet f p)

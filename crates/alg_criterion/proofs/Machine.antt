@@ -85,29 +85,29 @@ module _ {M : Type 0} (cmp : M → M → Ordering) (times : M → M → M) (over
           None;
       made = [];
     })
-    -- rule 2
+    -- GoalIsReduced
     steps : (s : Seen M) → Reached hyps powers s → (new : List (List (M × ℤ))) →
         Pairwise (IsStep s.basis) s.remainders new →
         Reached hyps powers (record s { remainders = new })
-    -- rule 3
+    -- LineIsZero
     drops : (s : Seen M) → Reached hyps powers s → s.current ≡ Some [] →
         Reached hyps powers (record s { current = None })
-    -- rule 4
+    -- LineIsReduced
     reduces : (s : Seen M) → Reached hyps powers s → (old new : List (M × ℤ)) → s.current ≡ Some old → (l : Led M) →
         Has l s.basis → IsReduct old l new →
         Reached hyps powers (record s { current = Some new; made = s.made ++ new ∷ [] })
-    -- rule 5
+    -- LineJoins
     joins : (s : Seen M) → Reached hyps powers s → (l : Led M) → s.current ≡ Some (whole l) →
         (wider : List (Led M)) → Has l wider → ((k : Led M) → Has k s.basis → Has k wider) →
         ((k : Led M) → Has k wider → (k ≡ l) ⊎ Has k s.basis) →
         (more : List (Led M × Led M)) → ((p : Led M × Led M) → Has p s.pairs → Has p more) →
         ((f : Led M) → Has f s.basis → Has (f, l) more ⊎ Has (l, f) more ⊎ AreCoprime f.lead l.lead) →
         Reached hyps powers (record s { basis = wider; pairs = more; current = None })
-    -- rule 6
+    -- InputIsTaken
     takes : (s : Seen M) → Reached hyps powers s → s.current ≡ None →
         (h : List (M × ℤ)) (rest : List (List (M × ℤ))) → s.inputs ≡ h ∷ rest →
         Reached hyps powers (record s { inputs = rest; current = Some h })
-    -- rule 7
+    -- PairIsTaken
     pairs_up : (s : Seen M) → Reached hyps powers s → s.current ≡ None → (f g : Led M) → Has f s.basis →
         Has g s.basis → (rest : List (Led M × Led M)) →
         ((p : Led M × Led M) → Has p s.pairs → (p ≡ (f, g)) ⊎ Has p rest) → (new : List (M × ℤ)) →
@@ -120,7 +120,7 @@ module _ {M : Type 0} (cmp : M → M → Ordering) (times : M → M → M) (over
     pub is : p ≡ whole led
     pub none : (l : Led M) → Has l basis → (m : M) → times m l.lead ≢ led.lead
 
-  -- rule 8
+  -- NothingIsLeft
   pub record IsOver (s : Seen M) : Type 0 where
     pub current : s.current ≡ None
     pub inputs : s.inputs ≡ []

@@ -66,7 +66,7 @@ module _ (b : ℕ) (hyps powers : List Polynomial) (hyps_ok : Every (IsPoly fall
     more_lines : (p : Polynomial) → st.lines ++ p ∷ [] ≡ hyps ++ (f.made ++ p ∷ [])
     more_lines p = ap (λ (xs : List Polynomial). xs ++ p ∷ []) f.lines ∙ append_assoc hyps f.made (p ∷ [])
 
-    -- rule 2
+    -- GoalIsReduced
     pub goal_after : (r j : ℕ) → first_reducible st.lines st.basis 0 st.remainders ≡ Some (r, j) →
         Fine (goal_reduced st r j)
     unfolding stepped
@@ -101,7 +101,7 @@ module _ (b : ℕ) (hyps powers : List Polynomial) (hyps_ok : Every (IsPoly fall
         rest_is (g ∷ gs) rest h zero d l = h.0
         rest_is (g ∷ gs) rest h (suc r) d l = rest_is gs rest h.1 r d (omega arith)
 
-    -- rule 3
+    -- LineIsZero
     pub dropped_after : (k : ℕ) → st.current ≡ Some k → line_at st.lines k ≡ [] → Fine (dropped st)
     dropped_after k e z = record {
       made = f.made;
@@ -111,7 +111,7 @@ module _ (b : ℕ) (hyps powers : List Polynomial) (hyps_ok : Every (IsPoly fall
       count = f.count;
     }
 
-    -- rule 4
+    -- LineIsReduced
     pub line_after : (k j : ℕ) → st.current ≡ Some k → reducer st.lines st.basis (line_at st.lines k) ≡ Some j →
         Fine (line_reduced st k j)
     unfolding with_line
@@ -133,7 +133,7 @@ module _ (b : ℕ) (hyps powers : List Polynomial) (hyps_ok : Every (IsPoly fall
           count = f.count;
         }
 
-    -- the pairs after rule 5
+    -- the pairs after LineJoins
     abbrev joined_pairs : ℕ → List (Led Monomial × Led Monomial)
     joined_pairs k = map (led_pair st.lines) (with_pairs st.lines k st.basis st.pairs)
 
@@ -158,7 +158,7 @@ module _ (b : ℕ) (hyps powers : List Polynomial) (hyps_ok : Every (IsPoly fall
           ]
         ])
 
-    -- rule 5
+    -- LineJoins
     pub joined_after : (k : ℕ) → st.current ≡ Some k → line_at st.lines k ≢ [] → Fine (joined st k)
     joined_after k e some =
         let l = led_at st.lines k in
@@ -180,7 +180,7 @@ module _ (b : ℕ) (hyps powers : List Polynomial) (hyps_ok : Every (IsPoly fall
           count = f.count;
         }
 
-    -- rule 6
+    -- InputIsTaken
     pub taken_after : st.current ≡ None → st.taken < st.given → Fine (next_taken st)
     taken_after e more =
         let n = st.taken in
@@ -199,7 +199,7 @@ module _ (b : ℕ) (hyps powers : List Polynomial) (hyps_ok : Every (IsPoly fall
           count = f.count;
         }
 
-    -- rule 7
+    -- PairIsTaken
     pub pair_after : (x : Pair) (rest : List Pair) → st.current ≡ None → st.pairs ≡ x ∷ rest →
         Fine (pair_taken (without_pair st rest) x.i x.j)
     unfolding with_line

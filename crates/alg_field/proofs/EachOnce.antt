@@ -5,7 +5,8 @@ use Rattle.std.specs.List.{list_any}
 use Rattle.std.proofs.lemmas.List.Folds.{list_any-append}
 use Rattle.alg_terms.specs.declared.term.Term.{Term}
 use Rattle.alg_meaning.specs.Conditions.{is_dropped}
-use Rattle.alg_meaning.specs.Trees.{same_tree, each_once}
+use Rattle.alg_terms.specs.Lists.{each_once}
+use Rattle.alg_meaning.specs.Trees.{same_tree}
 use Rattle.alg_meaning.proofs.SameTrees.{same_trees, same_tree_itself}
 use Rattle.alg_reify.proofs.Once.{same_test, filter_both}
 use Rattle.alg_field.specs.Added.{add_condition, add_conditions}
@@ -131,12 +132,12 @@ module _ (char0 : Bool) where
       (t ∷ filter is_kept (filter (is_other t) ys)) (filter is_kept (filter (is_other t) ys)))) e
       ∙ ap (λ b. cond (not b) (t ∷ rest seen (filter (is_other t) ys)) (rest seen (filter (is_other t) ys))) f))
 
-  added_are : (seen ts : List Term) → add_conditions char0 seen ts ≡ seen ++ rest seen (each_once ts)
+  added_are : (seen ts : List Term) → add_conditions char0 seen ts ≡ seen ++ rest seen (each_once same_tree ts)
   added_are seen [] = sym (append-nil seen)
   added_are seen (t ∷ ts) =
       added_are (add_condition (is_dropped char0 t) seen t) ts
-      ∙ one_more seen t (each_once ts) (is_dropped char0 t) (list_any (same_tree t) seen) refl refl
+      ∙ one_more seen t (each_once same_tree ts) (is_dropped char0 t) (list_any (same_tree t) seen) refl refl
 
   -- from nothing on, they are the terms that are kept, each once
-  pub conditions_are : (ts : List Term) → add_conditions char0 [] ts ≡ filter is_kept (each_once ts)
-  conditions_are ts = added_are [] ts ∙ filter_all (is_new []) (λ y. refl) (filter is_kept (each_once ts))
+  pub conditions_are : (ts : List Term) → add_conditions char0 [] ts ≡ filter is_kept (each_once same_tree ts)
+  conditions_are ts = added_are [] ts ∙ filter_all (is_new []) (λ y. refl) (filter is_kept (each_once same_tree ts))

@@ -4,10 +4,11 @@ use Rattle.std.proofs.Common.{refl, sym, ap, ◌∙◌}
 use Rattle.alg_terms.specs.declared.term.Atom.{Atom}
 use Rattle.alg_terms.specs.declared.term.Term.{Term}
 use Rattle.alg_terms.specs.declared.term.Term.TheVariants.{Var, Int}
+use Rattle.alg_terms.proofs.Views.{Leaf}
 use Rattle.alg_mono.specs.NumberedPolynomials.{Polynomial, atom_of, term_of}
 use Rattle.alg_meaning.specs.Conditions.{denominators}
 use Rattle.alg_meaning.specs.FractionOutcome.{frac_outcome}
-use Rattle.alg_meaning.proofs.Built.{denominators-Var, denominators-Int, frac_outcome-Var, frac_outcome-Int}
+use Rattle.alg_meaning.proofs.Built.{denominators_leaf, frac_outcome_leaf}
 use Rattle.alg_reify.specs.FractionsUnder.{made_fraction}
 use Rattle.alg_reify.specs.Numbered.{number_of}
 use Rattle.alg_reify.proofs.FractionsUnder.{fractions_under_paths}
@@ -22,9 +23,9 @@ module _ (char0 : Bool) (atoms : List Atom) (path : List ℕ) (seen : List Term)
   literal_made n is same = record {
     fraction = whole ∙ (λ i. record { top = same i; below = [] }) ∙ sym (fractions_under_paths.literal atoms path n)
         ∙ ap (made_fraction atoms path) (sym is);
-    fine = ap frac_outcome is ∙ frac_outcome-Int n;
+    fine = ap frac_outcome is ∙ frac_outcome_leaf (Leaf.Literal n);
     back = refl;
-    conditions = sym (ap (add_conditions char0 seen) (ap denominators is ∙ denominators-Int n));
+    conditions = sym (ap (add_conditions char0 seen) (ap denominators is ∙ denominators_leaf (Leaf.Literal n)));
   }
 
   -- an atom under the path, as the code has the path
@@ -34,7 +35,7 @@ module _ (char0 : Bool) (atoms : List Atom) (path : List ℕ) (seen : List Term)
     fraction = whole ∙ (λ i. record { top = number i; below = [] })
         ∙ (λ i. record { top = atom_of (number_of atoms (record { path = e i; var = k })); below = [] })
         ∙ sym (fractions_under_paths.variable atoms path k) ∙ ap (made_fraction atoms path) (sym is);
-    fine = ap frac_outcome is ∙ frac_outcome-Var k;
+    fine = ap frac_outcome is ∙ frac_outcome_leaf (Leaf.Variable k);
     back = refl;
-    conditions = sym (ap (add_conditions char0 seen) (ap denominators is ∙ denominators-Var k));
+    conditions = sym (ap (add_conditions char0 seen) (ap denominators is ∙ denominators_leaf (Leaf.Variable k)));
   }

@@ -10,7 +10,7 @@ use Rattle.std.specs.declared.result.Result.TheVariants.{Ok, Err}
 use Rattle.std.specs.Result.{IsErrAnd}
 use Rattle.alg_terms.specs.declared.term.Atom.{Atom}
 use Rattle.alg_terms.specs.declared.term.Term.{Term}
-use Rattle.alg_terms.specs.declared.term.Term.TheVariants.{Add, Sub, Mul, Div}
+use Rattle.alg_terms.proofs.Views.{Binary, binary}
 use Rattle.alg_mono.specs.declared.ends.Overrun.{Overrun}
 use Rattle.alg_meaning.specs.Conditions.{denominators}
 use Rattle.alg_meaning.specs.FractionOutcome.{FractionOutcome, first_not_fine, frac_outcome}
@@ -25,8 +25,8 @@ use Rattle.alg_field.specs.declared.fraction.Fraction.{Fraction}
 use Rattle.alg_field.specs.Ends.{TellsEnd, GivesFraction}
 use Rattle.alg_field.specs.Fractions.{fraction_of}
 use Rattle.alg_field.specs.Making.{Operation, operation, operated, operated_outcome, operated_conditions, HasParts, IsOver, IsMade, Makes, Combines}
-use Rattle.alg_field.proofs.Operations.{operation-Add, operation-Sub, operation-Mul, operation-Div}
-use Rattle.alg_field.proofs.TermParts.{HasPart, HasTwo, sum_parts, difference_parts, product_parts, quotient_parts}
+use Rattle.alg_field.proofs.Operations.{operation_binary}
+use Rattle.alg_field.proofs.TermParts.{HasPart, HasTwo, two_parts}
 
 -- the end that comes first is the one that is told
 pub first_told : (e : FractionEnd) (o later : FractionOutcome) → TellsEnd e o → TellsEnd e (first_not_fine o later)
@@ -96,30 +96,20 @@ module _ (char0 : Bool) (atoms : List Atom) (path : List ℕ) (t : Term) where
   -- ---- two parts
   module _ (a b l r : Term) (is : HasParts t a b) (left : l ≡ a) (right : r ≡ b) (over : IsOver atoms path t) where
     -- the parts as they were taken out
-    parts_of : (u : Term) → HasParts u a b → HasTwo atoms path u l r (operation u)
-    parts_of u (inl e) =
+    parts_of : (o : Binary) → t ≡ binary o a b → HasTwo atoms path t l r (operation t)
+    parts_of o e =
         let P : Term → Type 0 = λ x. HasTwo atoms path x l r (operation x) in
-        let Q : Operation → Type 0 = λ op. HasTwo atoms path (Add l r) l r op in
-        subst P (sym (e ∙ (λ i. Add (sym left i) (sym right i))))
-        (subst Q (sym (operation-Add l r)) (sum_parts atoms path l r))
-    parts_of u (inr (inl e)) =
-        let P : Term → Type 0 = λ x. HasTwo atoms path x l r (operation x) in
-        let Q : Operation → Type 0 = λ op. HasTwo atoms path (Sub l r) l r op in
-        subst P (sym (e ∙ (λ i. Sub (sym left i) (sym right i))))
-        (subst Q (sym (operation-Sub l r)) (difference_parts atoms path l r))
-    parts_of u (inr (inr (inl e))) =
-        let P : Term → Type 0 = λ x. HasTwo atoms path x l r (operation x) in
-        let Q : Operation → Type 0 = λ op. HasTwo atoms path (Mul l r) l r op in
-        subst P (sym (e ∙ (λ i. Mul (sym left i) (sym right i))))
-        (subst Q (sym (operation-Mul l r)) (product_parts atoms path l r))
-    parts_of u (inr (inr (inr e))) =
-        let P : Term → Type 0 = λ x. HasTwo atoms path x l r (operation x) in
-        let Q : Operation → Type 0 = λ op. HasTwo atoms path (Div l r) l r op in
-        subst P (sym (e ∙ (λ i. Div (sym left i) (sym right i))))
-        (subst Q (sym (operation-Div l r)) (quotient_parts atoms path l r))
+        let Q : Operation → Type 0 = λ op. HasTwo atoms path (binary o l r) l r op in
+        subst P (sym (e ∙ (λ i. binary o (sym left i) (sym right i))))
+        (subst Q (sym (operation_binary o l r)) (two_parts atoms path l r o))
 
     two : HasTwo atoms path t l r (operation t)
-    two = parts_of t is
+    two = elim is [
+      | inl e ↦ parts_of Binary.Sum e
+      | inr (inl e) ↦ parts_of Binary.Difference e
+      | inr (inr (inl e)) ↦ parts_of Binary.Product e
+      | inr (inr (inr e)) ↦ parts_of Binary.Quotient e
+    ]
 
     held_parts : IsHeld atoms path l × IsHeld atoms path r
     held_parts =

@@ -1,6 +1,6 @@
 -- The quotients that are tried are terms of each file with a variable, and make equations.
 use Rattle.std.proofs.Common.{◌≡◌, ◌+◌, ◌≤◌, ◌<◌, ℕ, ℤ, Some, List, [], ◌∷◌, length, slice_index_or, refl, sym, ap, subst, ◌∙◌, rules, arith}
-use Rattle.std.specs.Prelude.{pos, ◌≤ℤ◌, max}
+use Rattle.std.specs.Prelude.{pos, ◌≤ℤ◌}
 use Rattle.std.specs.Option.{option_or}
 use Rattle.alg_terms.specs.Limits.{MAX_LITERAL, MAX_EXPONENT}
 use Rattle.alg_terms.specs.declared.declarations.VarDecl.{VarDecl}

@@ -25,7 +25,7 @@ pub record IsOver (atoms : List Atom) (path : List ℕ) (t : Term) : Type 0 wher
   pub literals : EachNode HasLiteral t
   pub held : IsHeld atoms path t
 
--- the operation of a term of two parts; a quotient has its denominator
+-- an operation on two parts; a quotient has its denominator
 pub data Operation : Type 0 where
   Sum : Operation
   Difference : Operation
@@ -33,6 +33,7 @@ pub data Operation : Type 0 where
   Quotient : Term → Operation
   None : Operation
 
+-- the operation of a term
 unfoldable pub operation : Term → Operation
 operation (Add' _ _ _ _) = Operation.Sum
 operation (Sub' _ _ _ _) = Operation.Difference
@@ -44,7 +45,7 @@ operation _ = Operation.None
 abbrev pub HasParts : Term → Term → Term → Type 0
 HasParts t l r = (t ≡ Add l r) ⊎ ((t ≡ Sub l r) ⊎ ((t ≡ Mul l r) ⊎ (t ≡ Div l r)))
 
--- the fraction of two fractions, what making it comes to, and the conditions after it
+-- the fraction that it makes of two fractions
 abbrev pub operated : Operation → FractionOver ℕ → FractionOver ℕ → FractionOver ℕ
 operated Operation.Sum a b = frac_sum nat_cmp a b
 operated Operation.Difference a b = frac_difference nat_cmp a b
@@ -52,6 +53,7 @@ operated Operation.Product a b = frac_product nat_cmp a b
 operated (Operation.Quotient u) a b = frac_quotient nat_cmp (is_unit nat_cmp b.top) a b
 operated Operation.None a b = a
 
+-- what making it comes to
 abbrev pub operated_outcome : Operation → FractionOver ℕ → FractionOver ℕ → FractionOutcome
 operated_outcome Operation.Sum a b = of_polynomials (sum_of_fractions nat_cmp a b)
 operated_outcome Operation.Difference a b = of_polynomials (sum_of_fractions nat_cmp a b)
@@ -60,6 +62,7 @@ operated_outcome (Operation.Quotient u) a b =
     cond (is_nothing b.top) (FractionOutcome.ZeroDenominator u) (of_polynomials (quotient_of_fractions nat_cmp a b))
 operated_outcome Operation.None a b = FractionOutcome.Fine
 
+-- and the conditions after it: a quotient adds its denominator
 abbrev pub operated_conditions : Bool → Operation → FractionOver ℕ → List Term → List Term
 operated_conditions char0 (Operation.Quotient u) b seen = add_condition (drops char0 b.top) seen u
 operated_conditions char0 _ b seen = seen

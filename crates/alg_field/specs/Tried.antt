@@ -8,6 +8,7 @@ use Rattle.alg_terms.specs.Sorts.{own_sort}
 use Rattle.alg_terms.specs.Term.{depth_of}
 use Rattle.alg_terms.specs.TermRules.{IsTerm}
 
+-- (k*x + c)^n
 abbrev pub linear_power : ℤ → ℤ → ℕ → Term
 linear_power k c n = Pow (Add (Mul (Int k) (Var 0)) (Int c)) n
 

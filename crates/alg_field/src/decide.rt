@@ -11,8 +11,8 @@ use crate::ends::FractionEnd;
 use crate::fraction::numerators;
 use crate::make::make;
 use crate::{HornerPoly, Mono, NoMemory, Stop};
+use alg_poly::Poly;
 use alg_reify::{Atoms, atoms_of};
-use alg_ring::{RingAnswer, compare};
 use alg_terms::{Equation, File, Seq, Term};
 use std::alloc::Global;
 
@@ -53,8 +53,8 @@ struct Sides {
 /// `Atoms` comes exactly where the equation has more than 1,000 atoms. Else the nodes of the left side
 /// and then of the right are taken in postorder: the first that divides by zero, or breaks a rule on
 /// norms or degrees, gives the answer `ZeroDenominator`, or `Range` or `Degree`; so do both cleared
-/// numerators after them. At one node `Range` comes before `Degree`, and its bounds are tested before
-/// its products are made.
+/// numerators after them. At one node `Range` comes before `Degree`. Each product is made only after
+/// its norm and degree were bounded, and the recursion is as deep as the terms.
 pub fn decide_field(alloc: Global, file: &File, equation: &Equation) -> Result<FieldDecision, Stop>
     requires { IsEquation file.now equation.now }
     ensures answer { IfOk result (λ d. IsFieldVerdict file.now equation.now (verdict_of d.answer)) }
@@ -134,7 +134,14 @@ fn make_sides(
     })
 }
 
-/// The answer where both numerators were made.
+/// The same polynomial as the list of its terms.
+fn listed(alloc: Global, form: &HornerPoly) -> Result<Poly, NoMemory>
+    ensures { IfOk result (λ p. p ≡ form.now) }
+{
+    Ok(Poly::from_terms(form.terms(alloc)?))
+}
+
+/// The answer where both numerators were made. Their terms are listed only where their forms differ.
 fn compared(
     alloc: Global,
     left: &HornerPoly,
@@ -143,10 +150,17 @@ fn compared(
 ) -> Result<FieldAnswer, NoMemory>
     ensures { IfOk result (IsComparison left.now right.now conditions.items) }
 {
-    match compare(alloc, left, right)? {
-        RingAnswer::Proved => Ok(FieldAnswer::Proved {
-            conditions: Seq::from_vec(conditions),
-        }),
-        RingAnswer::No { at, left, right } => Ok(FieldAnswer::No { at, left, right }),
+    if !left.same(right) {
+        let (first, second) = (listed(alloc, left)?, listed(alloc, right)?);
+        if let Some((at, left, right)) = first.first_difference(&second) {
+            return Ok(FieldAnswer::No {
+                at: at.copy(alloc)?,
+                left,
+                right,
+            });
+        }
     }
+    Ok(FieldAnswer::Proved {
+        conditions: Seq::from_vec(conditions),
+    })
 }

@@ -1,3 +1,5 @@
+//! Why there is no fraction.
+
 use alg_mono::Overrun;
 use alg_terms::Term;
 use std::alloc::{AllocError, AllocFailed};

@@ -1,5 +1,10 @@
-//! Goals by field: whether the cleared numerators of the two sides of an equation are one polynomial,
-//! and under which conditions.
+//! Goals by field: whether the sides of an equation are equal wherever no denominator is zero.
+//!
+//! Each side becomes a fraction, a polynomial over a product of factors, and the two numerators over
+//! the common factors are compared. [`decide_field`] gives the verdict of `IsFieldVerdict` in
+//! alg_reify's `specs/FieldVerdict.antt`, with the conditions that it needs, and [`laws`] says what a
+//! verdict means. The fractions of a term are those of alg_meaning's `specs/FractionsOver.antt`, at the
+//! numbers of the equation's atoms.
 #![tactic(auto)]
 
 mod bounds;

@@ -68,6 +68,32 @@ fn quotient(alloc: Global, left: Term, right: Term) -> Result<Term, NoMemory>
     Ok(Term::Div(Boxed::new(alloc, left)?, Boxed::new(alloc, right)?))
 }
 
+// x/1/1/../1, with so many quotients.
+fn chain(alloc: Global, count: u32) -> Result<Term, NoMemory>
+    requires { count < 990 }
+    ensures { IfOk result (λ t. (file : File) → 0 < length file.vars →
+        IsSide file (4 + count) t) }
+{
+    let mut long = power(alloc, X)?;
+    for _k in 0..count {
+        let one = power(alloc, ONE)?;
+        long = quotient(alloc, long, one)?;
+    }
+    Ok(long)
+}
+
+fn equation(file: &File, left: Term, right: Term) -> Equation
+    requires { 0 < length file.now.vars }
+    ensures { (d : ℕ) → IsSide file.now d left → IsSide file.now d right →
+        IsEquation file.now result }
+{
+    Equation {
+        sort: file.vars.items()[0].sort,
+        left,
+        right,
+    }
+}
+
 // a/(b/c) = d/e
 fn goal(alloc: Global, file: &File, powers: [Power; 5]) -> Result<Equation, NoMemory>
     requires { 0 < length file.now.vars }
@@ -75,11 +101,19 @@ fn goal(alloc: Global, file: &File, powers: [Power; 5]) -> Result<Equation, NoMe
 {
     let [a, b, c, d, e] = powers;
     let inner = quotient(alloc, power(alloc, b)?, power(alloc, c)?)?;
-    Ok(Equation {
-        sort: file.vars.items()[0].sort,
-        left: quotient(alloc, power(alloc, a)?, inner)?,
-        right: quotient(alloc, power(alloc, d)?, power(alloc, e)?)?,
-    })
+    let left = quotient(alloc, power(alloc, a)?, inner)?;
+    let right = quotient(alloc, power(alloc, d)?, power(alloc, e)?)?;
+    Ok(equation(file, left, right))
+}
+
+// x/1/1/../1 = x
+fn long(alloc: Global, file: &File) -> Result<Equation, NoMemory>
+    requires { 0 < length file.now.vars }
+    ensures { IfOk result (λ e. IsEquation file.now e) }
+{
+    let left = chain(alloc, 980)?;
+    let right = power(alloc, X)?;
+    Ok(equation(file, left, right))
 }
 
 // A power, or one over another.
@@ -196,6 +230,15 @@ fn an_equation_is_decided_by_its_numerators(rt: HostRuntime) -> Result<(), Fail>
             _ => panic!(rt; "{powers:?}"),
         }
     }
+    Ok(())
+}
+
+#[test]
+fn a_side_may_be_deep(rt: HostRuntime) -> Result<(), Fail> {
+    let file = one_variable(rt.alloc(), false)?;
+    let goal = long(rt.alloc(), &file)?;
+    let decision = decide_field(rt.alloc(), &file, &goal)?;
+    assert!(rt; is(rt.alloc(), &decision, &Want::Proved(&[]))?);
     Ok(())
 }
 

@@ -52,8 +52,8 @@ keep_all (b ∷ bs) [] f = refl
 keep_all (true ∷ bs) (x ∷ xs) f = ap (λ ys. x ∷ ys) (keep_all bs xs (λ k h. f (suc k) (omega arith)))
 keep_all (false ∷ bs) (x ∷ xs) f = absurd (let e = f 0 (omega arith) in let n : false ≡ true = e in grind arith)
 
-length-lines : (lines : List Polynomial) (ls : List Line) (all : List Polynomial) → AreLines lines ls all → length all
-    ≡ length lines + length ls
+pub length-lines : (lines : List Polynomial) (ls : List Line) (all : List Polynomial) → AreLines lines ls all →
+    length all ≡ length lines + length ls
 length-lines lines [] all a = let e = ap (λ (xs : List Polynomial). length xs) a in omega arith
 length-lines lines (l ∷ ls) all a =
     let longer = length-append lines (a.0 ∷ []) in
@@ -91,9 +91,8 @@ pruned_good hyps made all g ss a b =
     )
 
 -- ---- the run
-runs_faithful : (hyps : List Polynomial) (g : Polynomial) (limit : ℕ) (st last : State) (e : End) → Follows limit st last
-    e → IsSound limit st →
-    IsFaithful hyps g st → IsFaithful hyps g last
+pub runs_faithful : (hyps : List Polynomial) (g : Polynomial) (limit : ℕ) (st last : State) (e : End) →
+    Follows limit st last e → IsSound limit st → IsFaithful hyps g st → IsFaithful hyps g last
 runs_faithful hyps g limit st last e (now h) s f = f
 runs_faithful hyps g limit st last e (later {to = to} h r) s f =
     runs_faithful hyps g limit to last e r ((goes_kept limit st to s h).0) (goes_faithful hyps g limit st to s f h)
@@ -154,7 +153,7 @@ zero_steps lines g n (x ∷ xs) r h e =
 
 -- ---- the law
 module _ (hyps : List Polynomial) (g : Polynomial) (limit : ℕ) where
-  faithful_first : (power : ℕ) → All IsP hyps → powers_outcome g 1 power ≡ Outcome.Fine → IsFaithful hyps g
+  pub faithful_first : (power : ℕ) → All IsP hyps → powers_outcome g 1 power ≡ Outcome.Fine → IsFaithful hyps g
       (first_state hyps (powers g 1 power))
   faithful_first power polys fine = record { polys = polys; lines = refl; steps = first_steps hyps g 1 power fine }
 

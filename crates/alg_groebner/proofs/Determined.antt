@@ -1,16 +1,18 @@
 -- A state has one next state or one end, and a run one end.
 use Rattle.std.specs.Prelude.{◌≡◌, ℕ, zero, suc, ◌<◌}
 use Rattle.std.proofs.Common.{refl, ap, subst, arith}
-use Rattle.alg_groebner.specs.Laws.{OneStep, StaysInOrder, OneEnd, SomeEnd}
+use Rattle.alg_mono.specs.Outcomes.{Outcome}
+use Rattle.alg_groebner.specs.Laws.{OneStep, StaysInOrder, OneEnd, SomeEnd, EachSearchEnds}
+use Rattle.alg_groebner.specs.Rules.{Takes}
 use Rattle.alg_groebner.specs.State.{State, End, Next, Goes, Ends}
-use Rattle.alg_groebner.specs.Machine.{next}
-use Rattle.alg_groebner.specs.Follows.{Follows, now, later}
-use Rattle.alg_groebner.specs.Runs.{Runs, ends, goes, work}
+use Rattle.alg_groebner.specs.Runs.{Runs, ends, goes, work, powers, powers_outcome, first_state}
+use Rattle.alg_groebner.specs.Runs.{Comes, too_great, too_high, runs}
 use Rattle.alg_groebner.specs.Sound.{IsSound}
-use Rattle.alg_groebner.proofs.Keeping.{goes_kept}
-use Rattle.alg_groebner.proofs.Ordered.{stays, first_in_order, runs_if_follows}
+use Rattle.alg_groebner.proofs.Deciding.{some_taken, taken_keeps}
+use Rattle.alg_groebner.proofs.Ending.{first_sound}
+use Rattle.alg_groebner.proofs.Keeping.{Keeps}
+use Rattle.alg_groebner.proofs.Ordered.{stays, first_in_order}
 use Rattle.alg_groebner.proofs.Ruled.{one_taken}
-use Rattle.alg_groebner.proofs.Taken.{next_taken_is}
 
 end_or : End → Next → End
 end_or e (Goes to) = e
@@ -36,28 +38,42 @@ one_end limit st a b e f (goes {to = to} h r) (goes {to = too} k s) =
     one_end limit too a b e f (subst (λ (x : State). Runs limit x a e) same r) s
 
 pub one_step : OneStep
-one_step limit st s =
-    let taken = next_taken_is limit st s in
-    (next limit st, taken, λ y t. one_taken limit st y (next limit st) t taken)
+one_step limit st =
+    let some = some_taken limit st in
+    (some.0, some.1, λ y t. one_taken limit st y some.0 t some.1)
 
 pub stays_in_order : StaysInOrder
 stays_in_order = (first_in_order, λ limit st to s t. stays limit st s to t)
 
-some_end_in : (n limit : ℕ) (st : State) → IsSound limit st → work limit st < n → (last : State) × (e : End) × Follows
-    limit st last e
+-- ---- each run ends
+abbrev Ending : ℕ → State → Type 0
+Ending limit st = (last : State) × (e : End) × Runs limit st last e
+
+some_end_in : (n limit : ℕ) (st : State) → IsSound limit st → work limit st < n → Ending limit st
 some_end_in zero limit st s h = absurd (omega arith)
-some_end_in (suc n) limit st s h = go (λ to t w. some_end_in n limit to t w) (next limit st) refl
+some_end_in (suc n) limit st s h =
+    let some = some_taken limit st in
+    go (λ to t w. some_end_in n limit to t w) some.0 some.1 (taken_keeps limit st s some.0 some.1)
   where
-    go : ((to : State) → IsSound limit to → work limit to < n → (last : State) × (e : End) × Follows limit to last e) →
-        (x : Next) → next limit st ≡ x → (last : State) × (e : End) × Follows limit st last e
-    go further (Ends e) q = (st, e, now q)
-    go further (Goes to) q =
-        let kept = goes_kept limit st to s q in
-        let less = kept.1 in
-        let rest = further to kept.0 (omega arith) in
-        (rest.0, rest.1, later q rest.2)
+    go : ((to : State) → IsSound limit to → work limit to < n → Ending limit to) →
+        (x : Next) → Takes limit st x → Keeps limit st x → Ending limit st
+    go further (Ends e) t k = (st, e, ends t)
+    go further (Goes to) t k =
+        let less = k.1 in
+        let rest = further to k.0 (omega arith) in
+        (rest.0, rest.1, goes t rest.2)
 
 pub some_end : SomeEnd
-some_end limit st s o =
-    let r = some_end_in (suc (work limit st)) limit st s (omega arith) in
-    (r.0, r.1, runs_if_follows limit st r.0 r.1 o r.2)
+some_end limit st s = some_end_in (suc (work limit st)) limit st s (omega arith)
+
+pub each_search_ends : EachSearchEnds
+each_search_ends hyps g power limit few small low = by_powers (powers_outcome g 1 power) refl
+  where
+    by_powers : (o : Outcome) → powers_outcome g 1 power ≡ o →
+        (last : State) × (e : End) × Comes hyps g power limit last e
+    by_powers Outcome.Range e = (first_state hyps (powers g 1 power), End.Range, too_great e)
+    by_powers Outcome.Degree e = (first_state hyps (powers g 1 power), End.Degree, too_high e)
+    by_powers Outcome.Fine e =
+        let end = some_end limit (first_state hyps (powers g 1 power))
+        (first_sound hyps g power limit few small low) in
+        (end.0, end.1, runs e end.2)

@@ -26,17 +26,16 @@ use Rattle.alg_groebner.proofs.Added.{there_longer, both_longer, Both, pairs_wit
 -- ---- the moves
 module _ (limit : ℕ) where
   -- the state after is sound, and less is left to do
-  abbrev Kept : State → State → Type 0
+  abbrev pub Kept : State → State → Type 0
   Kept st to = IsSound limit to × (work limit to < work limit st)
 
   abbrev pub Keeps : State → Next → Type 0
   Keeps st (Goes to) = Kept st to
   Keeps st (Ends e) = Unit {0}
 
-  line_kept : (st : State) (pairs : List Pair) (m : Monomial) (i : ℕ) (n : Monomial) (j : ℕ) (c : Cancelled) → IsSound
-      limit st →
-      All (HasBoth st.lines) pairs → All (AreMembers st.basis) pairs → st.count < limit → Kept st
-      (with_line (without_pair st pairs) m i n j c)
+  pub line_kept : (st : State) (pairs : List Pair) (m : Monomial) (i : ℕ) (n : Monomial) (j : ℕ) (c : Cancelled) →
+      IsSound limit st → All (HasBoth st.lines) pairs → All (AreMembers st.basis) pairs → st.count < limit →
+      Kept st (with_line (without_pair st pairs) m i n j c)
   unfolding with_line
   line_kept st pairs m i n j c s h members due =
       let lines = s.lines in
@@ -62,7 +61,7 @@ module _ (limit : ℕ) where
         omega arith,
       )
 
-  goal_kept : (st : State) (r j : ℕ) → IsSound limit st → st.count < limit → Kept st (goal_reduced st r j)
+  pub goal_kept : (st : State) (r j : ℕ) → IsSound limit st → st.count < limit → Kept st (goal_reduced st r j)
   goal_kept st r j s due = (
     record {
       hypotheses = s.hypotheses;
@@ -88,7 +87,7 @@ module _ (limit : ℕ) where
     omega arith,
   )
 
-  joined_kept : (st : State) (k : ℕ) → IsSound limit st → st.current ≡ Some k → IsThere st.lines k → Kept st
+  pub joined_kept : (st : State) (k : ℕ) → IsSound limit st → st.current ≡ Some k → IsThere st.lines k → Kept st
       (joined st k)
   joined_kept st k s e there = (
     record {
@@ -113,7 +112,7 @@ module _ (limit : ℕ) where
     (let f = ap current_left e in omega arith),
   )
 
-  dropped_kept : (st : State) (k : ℕ) → IsSound limit st → st.current ≡ Some k → Kept st (dropped st)
+  pub dropped_kept : (st : State) (k : ℕ) → IsSound limit st → st.current ≡ Some k → Kept st (dropped st)
   dropped_kept st k s e = (
     record {
       hypotheses = s.hypotheses;
@@ -132,7 +131,7 @@ module _ (limit : ℕ) where
     (let f = ap current_left e in omega arith),
   )
 
-  taken_kept : (st : State) → IsSound limit st → st.current ≡ None → st.taken < st.given → Kept st (next_taken st)
+  pub taken_kept : (st : State) → IsSound limit st → st.current ≡ None → st.taken < st.given → Kept st (next_taken st)
   taken_kept st s e more = (
     record {
       hypotheses = s.hypotheses;
@@ -157,7 +156,7 @@ module _ (limit : ℕ) where
   made_kept st to Outcome.Range k = tt
   made_kept st to Outcome.Degree k = tt
 
-  counted_kept : (st to : State) (o : Outcome) → (st.count < limit → Kept st to) → Keeps st (counted limit st o to)
+  pub counted_kept : (st to : State) (o : Outcome) → (st.count < limit → Kept st to) → Keeps st (counted limit st o to)
   counted_kept st to o k =
       elim (cases_lt st.count limit) [
         | inl h ↦ subst (λ b. Keeps st (cond b (made o to) (Ends End.GaveUp))) (sym (is_less st.count limit h))

@@ -9,7 +9,7 @@ use Rattle.alg_groebner.specs.Sound.{IsIn}
 use Rattle.alg_groebner.specs.declared.remainder.Remainder.{Remainder}
 use Rattle.alg_groebner.proofs.Found.{same_some, none_some}
 
-differ : {A : Type 0} → true ≡ false → A
+pub differ : {A : Type 0} → true ≡ false → A
 differ e = absurd (let f : true ≡ false = e in grind arith)
 
 -- ---- the first of a list is the least of rising numbers
@@ -49,6 +49,14 @@ find_first test n (k ∷ ks) j r e =
             ];
           }
     ] refl e
+
+pub find_some : (test : ℕ → Bool) (ks : List ℕ) (j : ℕ) → find test ks ≡ Some j → IsIn ks j
+find_some test [] j e = absurd (none_some j e)
+find_some test (k ∷ ks) j e =
+    elim (test k) as (λ t. cond t (Some k) (find test ks) ≡ Some j → IsIn (k ∷ ks) j) [
+      | true ↦ λ f. inl (same_some k j f)
+      | false ↦ λ f. inr (find_some test ks j f)
+    ] e
 
 pub find_none : (test : ℕ → Bool) (ks : List ℕ) → find test ks ≡ None → (i : ℕ) → IsIn ks i → test i ≡ true → ⊥
 find_none test [] e i h p = h

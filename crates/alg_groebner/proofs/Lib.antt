@@ -15,6 +15,8 @@ pub mod Ending
 pub mod Least
 pub mod Ruled
 pub mod Taken
+pub mod Lists
+pub mod Deciding
 pub mod Ordered
 pub mod Determined
 pub mod Exact
@@ -24,6 +26,7 @@ pub mod Pruned
 pub mod Kept
 pub mod Marked
 pub mod Certified
+pub mod Citing
 pub mod Shown
 pub mod Queued
 pub mod Simulated

@@ -18,7 +18,7 @@ use Rattle.alg_groebner.specs.Follows as follows
 use Rattle.alg_groebner.specs.Follows.{Follows}
 use Rattle.alg_groebner.specs.Machine.{made, counted, next}
 use Rattle.alg_groebner.specs.Moves.{with_line}
-use Rattle.alg_groebner.specs.Rules.{Rule, Rule1, Rule2, Rule3, Rule4, Rule5, Rule6, Rule7, Rule8, Does, Takes, Rises, ArePairsRising, IsInOrder}
+use Rattle.alg_groebner.specs.Rules.{Rule, GoalIsZero, GoalIsReduced, LineIsZero, LineIsReduced, LineJoins, InputIsTaken, PairIsTaken, NothingIsLeft, Does, Takes, Rises, ArePairsRising, IsInOrder}
 use Rattle.alg_groebner.specs.Runs.{Runs, ends, goes, first_state}
 use Rattle.alg_groebner.specs.State.{State, End, Next, Goes, Ends}
 use Rattle.alg_groebner.specs.declared.remainder.Remainder.{Remainder}
@@ -97,20 +97,20 @@ module _ (limit : ℕ) (st : State) (s : IsInOrder st) where
 
   does_keep : (r : Rule) (x : Next) → Does limit st r x → Keeps x
   unfolding Keeps with_line
-  does_keep Rule1 x d = subst Keeps (sym d.2) tt
-  does_keep Rule2 x d = subst Keeps (sym d.5) (counted_keeps _ _ (record { basis = s.basis; pairs = s.pairs }))
-  does_keep Rule3 x d = subst Keeps (sym d.3) (record { basis = s.basis; pairs = s.pairs })
-  does_keep Rule4 x d = subst Keeps (sym d.4) (counted_keeps _ _ (record { basis = s.basis; pairs = s.pairs }))
-  does_keep Rule5 x d = subst Keeps (sym d.2) (record {
+  does_keep GoalIsZero x d = subst Keeps (sym d.2) tt
+  does_keep GoalIsReduced x d = subst Keeps (sym d.5) (counted_keeps _ _ (record { basis = s.basis; pairs = s.pairs }))
+  does_keep LineIsZero x d = subst Keeps (sym d.3) (record { basis = s.basis; pairs = s.pairs })
+  does_keep LineIsReduced x d = subst Keeps (sym d.4) (counted_keeps _ _ (record { basis = s.basis; pairs = s.pairs }))
+  does_keep LineJoins x d = subst Keeps (sym d.2) (record {
     basis = rises-insert 0 st.basis d.0 (omega arith) s.basis;
     pairs = pairs-with st.lines d.0 st.basis st.pairs s.pairs;
   })
-  does_keep Rule6 x d = subst Keeps (sym d.1) (record { basis = s.basis; pairs = s.pairs })
-  does_keep Rule7 x d = subst Keeps (sym d.3) (counted_keeps _ _ (record {
+  does_keep InputIsTaken x d = subst Keeps (sym d.1) (record { basis = s.basis; pairs = s.pairs })
+  does_keep PairIsTaken x d = subst Keeps (sym d.3) (counted_keeps _ _ (record {
     basis = s.basis;
     pairs = (subst ArePairsRising d.2.0 s.pairs).1;
   }))
-  does_keep Rule8 x d = subst Keeps (sym d) tt
+  does_keep NothingIsLeft x d = subst Keeps (sym d) tt
 
   pub stays : (to : State) → Takes limit st (Goes to) → IsInOrder to
   unfolding Keeps

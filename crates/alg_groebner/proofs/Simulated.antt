@@ -110,7 +110,7 @@ module _ (hyps : List Polynomial) (limit : ℕ) (w : Work) (lines : List Polynom
   unfolding shown
   over_there = drop_front w.queue.pairs over sound.pairs
 
-  -- ---- rules 7 and 8
+  -- ---- PairIsTaken and NothingIsLeft
   pub pair_sim : (x : Pair) (rest : List Pair) → All IsWithin rest → AreMembers (numbers w.basis) x →
       Simulates hyps (work_by_pairs limit w (x ∷ rest)) (by_pairs limit st (x ∷ rest ++ over))
   unfolding shown

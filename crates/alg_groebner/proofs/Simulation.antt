@@ -49,7 +49,7 @@ module _ (hyps : List Polynomial) (limit : ℕ) (w : Work) (lines : List Polynom
   abbrev st : State
   st = shown w lines over
 
-  -- ---- rules 6 to 8
+  -- ---- InputIsTaken, PairIsTaken and NothingIsLeft
   pairs_sim : (xs : List Pair) → xs ≡ w.queue.pairs → Simulates hyps (work_by_pairs limit w xs)
       (by_pairs limit st (xs ++ over))
   unfolding shown
@@ -89,7 +89,7 @@ module _ (hyps : List Polynomial) (limit : ℕ) (w : Work) (lines : List Polynom
       test_less : (a b : ℕ) → nat_lt a b ≡ true → a < b
       test_less a b e = grind arith
 
-  -- ---- rule 2
+  -- ---- GoalIsReduced
   goal_sim : (r : ℕ) (b : Member) → member_reducible w.basis 0 w.remainders ≡ Some (r, b) →
       Simulates hyps (work_by_reducible hyps limit w (Some (r, b))) (by_reducible limit st (Some (r, b.number)))
   unfolding shown with_step
@@ -123,7 +123,7 @@ module _ (hyps : List Polynomial) (limit : ℕ) (w : Work) (lines : List Polynom
   reducible_sim None e = inputs_sim
   reducible_sim (Some x) e = goal_sim x.0 x.1 e
 
-  -- ---- rules 3 to 5
+  -- ---- LineIsZero, LineIsReduced and LineJoins
   module _ (c : Member) (line : IsLine lines c) where
     line_sim : (b : Member) → member_reducer w.basis c.poly ≡ Some b →
         Simulates hyps (work_by_reducer limit w c (Some b)) (by_reducer limit st c.number (Some b.number))

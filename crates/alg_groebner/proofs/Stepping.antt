@@ -35,7 +35,7 @@ module _ (limit : ℕ) (w : Work) (due : w.count < limit) where
   counted_stops o to old new Degree t = counted_is o to ∙ ap (λ x. work_made x to) t
   counted_stops o to old new NoMemory t = tt
 
-  -- rule 2
+  -- GoalIsReduced
   module _ (hyps : List Polynomial) (r : ℕ) (b : Member) (g : Remainder)
       (chosen : Some (r, b) ≡ member_reducible w.basis 0 w.remainders) (at : g ≡ remainder_at w.remainders r) where
     pub goal_goes : (n : Monomial) (c : Cancelled) (new : Work) → reduce_outcome g.rest b.poly ≡ Outcome.Fine →
@@ -55,7 +55,7 @@ module _ (limit : ℕ) (w : Work) (due : w.count < limit) where
         (counted_stops (reduce_outcome (remainder_at w.remainders r).rest b.poly) (work_goal_reduced w r b) old new e
         (subst (λ (x : Remainder). Tells e (reduce_outcome x.rest b.poly)) at t))
 
-  -- rule 7
+  -- PairIsTaken
   module _ (i j : ℕ) (b c : Member) (first : Some b ≡ member_at w.basis i) (second : Some c ≡ member_at w.basis j) where
     number_is : (basis : List Member) (k : ℕ) (d : Member) → Some d ≡ member_at basis k → k ≡ d.number
     number_is basis k d e = sym (eqb-true d.number k (found (λ (x : Member). Rattle.std.specs.Prelude.nat_eq x.number

@@ -7,6 +7,7 @@ use Rattle.alg_mono.specs.NumberedPolynomials.{Polynomial}
 use Rattle.alg_lines.specs.Accepting.{IsGood}
 use Rattle.alg_lines.specs.declared.cert.Line.{Line}
 use Rattle.alg_lines.specs.declared.cert.GoalStep.{GoalStep}
+use Rattle.alg_groebner.specs.Choices.{remainder_at}
 use Rattle.alg_groebner.specs.Cited.{IsCited, CiteEarlier, CiteLines}
 use Rattle.alg_groebner.specs.Pruning.{marks_of, certificate}
 use Rattle.alg_groebner.specs.Rules.{Takes, IsInOrder}
@@ -15,13 +16,11 @@ use Rattle.alg_groebner.specs.Runs.{Runs, Comes, first_state}
 use Rattle.alg_groebner.specs.Sound.{IsSound}
 use Rattle.alg_groebner.specs.declared.remainder.Remainder.{Remainder}
 
--- where the lists of a state are in order, one rule is taken, with one next state or one end
+-- in each state one rule is taken, with one next state or one end
 abbrev pub OneStep : Type 0
-OneStep =
-    (limit : ℕ) (st : State) → IsInOrder st →
-    (x : Next) × Takes limit st x × ((y : Next) → Takes limit st y → y ≡ x)
+OneStep = (limit : ℕ) (st : State) → (x : Next) × Takes limit st x × ((y : Next) → Takes limit st y → y ≡ x)
 
--- and so they are in each state of a search: in the first, and after each step
+-- the lists of each state of a search are in order: those of the first, and after each step
 abbrev pub StaysInOrder : Type 0
 StaysInOrder =
     ((hyps : List Polynomial) (gs : List Remainder) → IsInOrder (first_state hyps gs))
@@ -34,8 +33,13 @@ OneEnd =
 
 -- and each run ends
 abbrev pub SomeEnd : Type 0
-SomeEnd =
-    (limit : ℕ) (st : State) → IsSound limit st → IsInOrder st → (last : State) × (e : End) × Runs limit st last e
+SomeEnd = (limit : ℕ) (st : State) → IsSound limit st → (last : State) × (e : End) × Runs limit st last e
+
+-- so each search has an end
+abbrev pub EachSearchEnds : Type 0
+EachSearchEnds =
+    (hyps : List Polynomial) (g : Polynomial) (power limit : ℕ) → length hyps < 2 ^ 31 → power ≤ 16 →
+    limit ≤ 1000000 → (last : State) × (e : End) × Comes hyps g power limit last e
 
 -- the certificate of a run that came to zero is good
 abbrev pub CertificatesAreGood : Type 0
@@ -43,6 +47,15 @@ CertificatesAreGood =
     (hyps : List Polynomial) (g : Polynomial) (power limit : ℕ) → All (λ p. IsPolynomial nat_cmp integers p) hyps →
     length hyps < 2 ^ 31 → power ≤ 16 → limit ≤ 1000000 →
     (last : State) (r : ℕ) → Comes hyps g power limit last (Proved r) → IsGood hyps g (certificate last r)
+
+-- the lines of each run cite earlier lines, and the steps to each remainder cite lines
+abbrev pub RunsCite : Type 0
+RunsCite =
+    (hyps : List Polynomial) (g : Polynomial) (power limit : ℕ) → All (λ p. IsPolynomial nat_cmp integers p) hyps →
+    length hyps < 2 ^ 31 → power ≤ 16 → limit ≤ 1000000 →
+    (last : State) (e : End) → Comes hyps g power limit last e →
+    CiteEarlier last.given last.made
+    × ((r : ℕ) → CiteLines (last.given + length last.made) (remainder_at last.remainders r).steps)
 
 -- of the lines beyond the hypotheses exactly those are marked that the steps cite, directly or through other lines; the
 -- marked lines are those that a certificate keeps

@@ -19,27 +19,27 @@ module _ (limit : ℕ) (st : State) where
   abbrev pub counted : Outcome → State → Next
   counted outcome to = cond (nat_lt st.count limit) (made outcome to) (Ends GaveUp)
 
-  -- rule 7: a pair is left, the least of which is taken; rule 8: nothing is left to do
+  -- PairIsTaken: a pair is left, the least of which is taken; NothingIsLeft: nothing is left to do
   abbrev pub by_pairs : List Pair → Next
   by_pairs (x ∷ rest) =
       counted (pair_outcome st x.i x.j) (pair_taken (without_pair st rest) x.i x.j)
   by_pairs [] = Ends (NoneUpTo (length st.remainders))
 
-  -- rule 6: an input is left
+  -- InputIsTaken: an input is left
   abbrev pub by_inputs : Next
   by_inputs = cond (nat_lt st.taken st.given) (Goes (next_taken st)) (by_pairs st.pairs)
 
-  -- rule 2: there is no current line, and a remainder is reducible
+  -- GoalIsReduced: there is no current line, and a remainder is reducible
   abbrev pub by_reducible : Option (ℕ × ℕ) → Next
   by_reducible (Some x) = counted (goal_outcome st x.0 x.1) (goal_reduced st x.0 x.1)
   by_reducible None = by_inputs
 
-  -- rule 4: the current line is reducible; rule 5: it is not
+  -- LineIsReduced: the current line is reducible; LineJoins: it is not
   abbrev pub by_reducer : ℕ → Option ℕ → Next
   by_reducer k (Some j) = counted (line_outcome st k j) (line_reduced st k j)
   by_reducer k None = Goes (joined st k)
 
-  -- rule 3: the current line is zero
+  -- LineIsZero: the current line is zero
   abbrev pub by_line : ℕ → Polynomial → Next
   by_line k [] = Goes (dropped st)
   by_line k (e ∷ p) = by_reducer k (reducer st.lines st.basis (e ∷ p))
@@ -48,7 +48,7 @@ module _ (limit : ℕ) (st : State) where
   by_current None = by_reducible (first_reducible st.lines st.basis 0 st.remainders)
   by_current (Some k) = by_line k (line_at st.lines k)
 
-  -- rule 1: some power of the goal came to zero
+  -- GoalIsZero: some power of the goal came to zero
   abbrev pub by_power : Option ℕ → Next
   by_power (Some r) = Ends (Proved r)
   by_power None = by_current st.current

@@ -29,7 +29,7 @@ stepped g n j c = record {
 }
 
 module _ (st : State) where
-  -- rule 2: the remainder at place r is reduced by line j; the move is counted
+  -- GoalIsReduced: the remainder at place r is reduced by line j; the move is counted
   abbrev pub goal_outcome : ℕ → ℕ → Outcome
   goal_outcome r j = reduce_outcome (remainder_at st.remainders r).rest (line_at st.lines j)
 
@@ -42,11 +42,11 @@ module _ (st : State) where
         count = st.count + 1;
       }
 
-  -- rule 3: there is no current line any more
+  -- LineIsZero: there is no current line any more
   abbrev pub dropped : State
   dropped = record st { current = None }
 
-  -- rule 4: the current line k is reduced by line j
+  -- LineIsReduced: the current line k is reduced by line j
   abbrev pub line_outcome : ℕ → ℕ → Outcome
   line_outcome k j = reduce_outcome (line_at st.lines k) (line_at st.lines j)
 
@@ -56,7 +56,7 @@ module _ (st : State) where
       let q = line_at st.lines j in
       with_line st [] k (quotient p q) j (reduced p q)
 
-  -- rule 5: the current line k joins the basis, with a pair with each other member whose lead is not
+  -- LineJoins: the current line k joins the basis, with a pair with each other member whose lead is not
   -- coprime to its own
   abbrev pub joined : ℕ → State
   joined k = record st {
@@ -65,11 +65,11 @@ module _ (st : State) where
     current = None;
   }
 
-  -- rule 6: the next hypothesis is the current line
+  -- InputIsTaken: the next hypothesis is the current line
   abbrev pub next_taken : State
   next_taken = record st { taken = st.taken + 1; current = Some (st.taken + 1) }
 
-  -- rule 7: the pair is removed, and the S-polynomial of its lines i < j is the current line
+  -- PairIsTaken: the pair is removed, and the S-polynomial of its lines i < j is the current line
   abbrev pub without_pair : List Pair → State
   without_pair rest = record st { pairs = rest }
 

@@ -34,41 +34,47 @@ module _ (st : State) where
   abbrev pub IsLeastPair : Pair → List Pair → Type 0
   IsLeastPair x others = (st.pairs ≡ x ∷ others) × All (λ y. pair_cmp x y ≡ Less) others
 
+-- the rules, each by what it finds or does
 pub data Rule : Type 0 where
-  Rule1 Rule2 Rule3 Rule4 Rule5 Rule6 Rule7 Rule8 : Rule
+  GoalIsZero GoalIsReduced LineIsZero LineIsReduced LineJoins InputIsTaken PairIsTaken NothingIsLeft : Rule
 
+-- its place among the rules
 abbrev pub number : Rule → ℕ
-number Rule1 = 1
-number Rule2 = 2
-number Rule3 = 3
-number Rule4 = 4
-number Rule5 = 5
-number Rule6 = 6
-number Rule7 = 7
-number Rule8 = 8
+number GoalIsZero = 1
+number GoalIsReduced = 2
+number LineIsZero = 3
+number LineIsReduced = 4
+number LineJoins = 5
+number InputIsTaken = 6
+number PairIsTaken = 7
+number NothingIsLeft = 8
 
 module _ (limit : ℕ) (st : State) where
-  -- a rule applies, and this is what it does: 1, some power of the goal is zero: the end, with the least such power;
-  -- 2, there is no current line and a remainder is reducible: the first such is reduced, by the least line; counted;
-  -- 3, the current line is zero: no current line; 4, it is reducible: it is reduced, by the least line; counted;
-  -- 5, there is a current line: it joins the basis; 6, an input is left: the next is the current line;
-  -- 7, a pair is left: the least is removed, and its S-polynomial is the current line; counted; 8, the end
+  -- a rule applies, and this is what it does:
+  -- GoalIsZero, some power of the goal is zero: the end, with the least such power;
+  -- GoalIsReduced, no current line and a remainder is reducible: the first such, by the least line; counted;
+  -- LineIsZero, the current line is zero: no current line;
+  -- LineIsReduced, the current line is reducible: it is reduced, by the least line; counted;
+  -- LineJoins, there is a current line: it joins the basis;
+  -- InputIsTaken, an input is left: the next is the current line;
+  -- PairIsTaken, a pair is left: the least is removed, and its S-polynomial is the current line; counted;
+  -- NothingIsLeft, always: the end
   abbrev pub Does : Rule → Next → Type 0
-  Does Rule1 x = (r : ℕ) × IsLeast (IsZeroPower st) r × (x ≡ Ends (Proved r))
-  Does Rule2 x =
+  Does GoalIsZero x = (r : ℕ) × IsLeast (IsZeroPower st) r × (x ≡ Ends (Proved r))
+  Does GoalIsReduced x =
       (r : ℕ) × (j : ℕ) × (st.current ≡ None) × IsLeast (IsReducibleAt st) r
       × IsLeast (ReducesIt st (remainder_at st.remainders r).rest) j
       × (x ≡ counted limit st (goal_outcome st r j) (goal_reduced st r j))
-  Does Rule3 x = (k : ℕ) × (st.current ≡ Some k) × (line_at st.lines k ≡ []) × (x ≡ Goes (dropped st))
-  Does Rule4 x =
+  Does LineIsZero x = (k : ℕ) × (st.current ≡ Some k) × (line_at st.lines k ≡ []) × (x ≡ Goes (dropped st))
+  Does LineIsReduced x =
       (k : ℕ) × (j : ℕ) × (st.current ≡ Some k) × IsLeast (ReducesIt st (line_at st.lines k)) j
       × (x ≡ counted limit st (line_outcome st k j) (line_reduced st k j))
-  Does Rule5 x = (k : ℕ) × (st.current ≡ Some k) × (x ≡ Goes (joined st k))
-  Does Rule6 x = (st.taken < st.given) × (x ≡ Goes (next_taken st))
-  Does Rule7 x =
+  Does LineJoins x = (k : ℕ) × (st.current ≡ Some k) × (x ≡ Goes (joined st k))
+  Does InputIsTaken x = (st.taken < st.given) × (x ≡ Goes (next_taken st))
+  Does PairIsTaken x =
       (y : Pair) × (others : List Pair) × IsLeastPair st y others
       × (x ≡ counted limit st (pair_outcome st y.i y.j) (pair_taken (without_pair st others) y.i y.j))
-  Does Rule8 x = x ≡ Ends (NoneUpTo (length st.remainders))
+  Does NothingIsLeft x = x ≡ Ends (NoneUpTo (length st.remainders))
 
   -- the first rule that applies does this
   pub record Takes (x : Next) : Type 0 where

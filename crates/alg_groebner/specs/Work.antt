@@ -1,5 +1,6 @@
 -- The state as the code keeps it, and its moves. Of the lines beyond the hypotheses only the basis lines and the
--- current line have their polynomials, and of the pairs beyond the limit on degrees it is only known whether there is one.
+-- current line have their polynomials, and of the pairs beyond the limit on degrees it is only known whether there is
+-- one.
 use Rattle.std.specs.Prelude.{ℕ, ◌+◌, ◌==◌, true, cond, List, [], ◌∷◌, ◌++◌, Option, Some, None, nat_lt, length, slice_set}
 use Rattle.std.specs.List.{find}
 use Rattle.std.specs.declared.cmp.Ordering.{Ordering}

@@ -23,7 +23,7 @@ module _ (limit : ℕ) (w : Work) where
   abbrev pub work_counted : Outcome → Work → WorkNext
   work_counted outcome to = cond (nat_lt w.count limit) (work_made outcome to) (Stops End.GaveUp)
 
-  -- rule 7, where there are both lines
+  -- PairIsTaken, where there are both lines
   abbrev pub by_members : List Pair → Option Member → Option Member → WorkNext
   by_members rest (Some b) (Some c) =
       work_counted (s_outcome b.poly c.poly)
@@ -31,29 +31,29 @@ module _ (limit : ℕ) (w : Work) where
   by_members rest (Some b) None = Stops End.GaveUp
   by_members rest None other = Stops End.GaveUp
 
-  -- rule 7, the pairs beyond the limit after all others; rule 8
+  -- PairIsTaken, the pairs beyond the limit after all others; NothingIsLeft
   abbrev pub work_by_pairs : List Pair → WorkNext
   work_by_pairs (x ∷ rest) = by_members rest (member_at w.basis x.i) (member_at w.basis x.j)
   work_by_pairs [] =
       cond w.queue.beyond (work_counted Outcome.Degree w) (Stops (End.NoneUpTo (length w.remainders)))
 
-  -- rule 4; rule 5
+  -- LineIsReduced; LineJoins
   abbrev pub work_by_reducer : Member → Option Member → WorkNext
   work_by_reducer c (Some b) = work_counted (reduce_outcome c.poly b.poly) (work_line_reduced w c b)
   work_by_reducer c None = GoesOn (work_joined w c)
 
-  -- rule 3
+  -- LineIsZero
   abbrev pub work_by_line : Member → Polynomial → WorkNext
   work_by_line c [] = GoesOn (record w { current = None })
   work_by_line c (e ∷ p) = work_by_reducer c (member_reducer w.basis (e ∷ p))
 
 module _ (hyps : List Polynomial) (limit : ℕ) (w : Work) where
-  -- rule 6
+  -- InputIsTaken
   abbrev pub work_by_inputs : WorkNext
   work_by_inputs =
       cond (nat_lt w.taken w.given) (GoesOn (work_taken w hyps)) (work_by_pairs limit w w.queue.pairs)
 
-  -- rule 2
+  -- GoalIsReduced
   abbrev pub work_by_reducible : Option (ℕ × Member) → WorkNext
   work_by_reducible (Some x) =
       work_counted limit w (reduce_outcome (remainder_at w.remainders x.0).rest x.1.poly)
@@ -64,7 +64,7 @@ module _ (hyps : List Polynomial) (limit : ℕ) (w : Work) where
   work_by_current None = work_by_reducible (member_reducible w.basis 0 w.remainders)
   work_by_current (Some c) = work_by_line limit w c c.poly
 
-  -- rule 1
+  -- GoalIsZero
   abbrev pub work_by_power : Option ℕ → WorkNext
   work_by_power (Some r) = Stops (End.Proved r)
   work_by_power None = work_by_current w.current

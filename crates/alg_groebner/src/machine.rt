@@ -111,7 +111,7 @@ impl Machine {
         Ok(())
     }
 
-    /// Rule 5: the line joins the basis.
+    /// `LineJoins`: the line joins the basis.
     fn join(&mut self, alloc: Global, line: Member) -> Result<(), NoMemory>
         requires basis { All IsSomeMember self.old.basis }
         requires new { line.poly ≢ [] }
@@ -123,7 +123,7 @@ impl Machine {
         Ok(())
     }
 
-    /// The rules for the current line: 3, 4 and 5.
+    /// The rules for the current line: `LineIsZero`, `LineIsReduced` and `LineJoins`.
     fn step_current(
         &mut self,
         alloc: Global,
@@ -153,7 +153,7 @@ impl Machine {
         Ok(None)
     }
 
-    /// Rule 6: the next hypothesis is the current line.
+    /// `InputIsTaken`: the next hypothesis is the current line.
     fn take_input(&mut self, alloc: Global, hyps: &[Poly]) -> Result<(), NoMemory>
         requires given { self.old.given ≡ length hyps.now }
         requires left { self.old.taken < self.old.given }
@@ -168,7 +168,7 @@ impl Machine {
         Ok(())
     }
 
-    /// Rule 7 for the pair of two basis lines, which is not in the queue any more.
+    /// `PairIsTaken` for the pair of two basis lines, which is not in the queue any more.
     fn take_pair(
         &mut self,
         alloc: Global,
@@ -196,7 +196,8 @@ impl Machine {
         Ok(None)
     }
 
-    /// The rules where no remainder is reducible and there is no current line: 6, 7 and 8.
+    /// The rules where no remainder is reducible and there is no current line: `InputIsTaken`,
+    /// `PairIsTaken` and `NothingIsLeft`.
     fn step_onward(
         &mut self,
         alloc: Global,
@@ -221,7 +222,7 @@ impl Machine {
         }
     }
 
-    /// The rules where there is no current line: 2, 6, 7 and 8.
+    /// The rules where there is no current line: `GoalIsReduced` and those of `step_onward`.
     fn step_idle(
         &mut self,
         alloc: Global,

@@ -17,7 +17,7 @@ use Rattle.alg_terms.proofs.SmallFile.{small_is_valid}
 use Rattle.alg_printer.specs.Monomials.{goal_atoms}
 use Rattle.alg_printer.specs.Printable.{ArePrintable, IsPrintable, IsNumeral, IsMonomialOver, IsLineOver, IsStepOver}
 use Rattle.alg_printer.specs.Text.{answer_at}
-use Rattle.alg_printer.specs.Examples.{inverse_answer, image_answer, one_line, one_step, small_answers}
+use Rattle.alg_printer.specs.Examples.{inverse_answer, image_answer, one_line, one_step, small_answers, zero_answers}
 
 variable_is : IsTerm small (Var 1)
 unfolding fold_term EachNode
@@ -85,6 +85,14 @@ each (suc (suc i)) within = absurd (omega arith)
 printable : ArePrintable small small_answers
 printable = record { count = refl; each = each }
 
+each_zero : (i : ℕ) → i < length small.goals → IfSome (answer_at zero_answers i) (IsPrintable small (goal_at small i))
+each_zero zero within = record { form = tt; parts = condition }
+each_zero (suc zero) within = tt
+each_zero (suc (suc i)) within = absurd (omega arith)
+
+zero_printable : ArePrintable small zero_answers
+zero_printable = record { count = refl; each = each_zero }
+
 -- what equals the small file is valid, and what equals these answers can be printed
 pub is_valid : (file : File) → file ≡ small → IsValid file
 is_valid file is = subst IsValid (sym is) small_is_valid
@@ -93,3 +101,8 @@ pub are_printable : (file : File) (answers : List (Option Answer)) → file ≡ 
     ArePrintable file answers
 are_printable file answers is are =
     subst (λ f. ArePrintable f answers) (sym is) (subst (ArePrintable small) (sym are) printable)
+
+pub zero_are_printable : (file : File) (answers : List (Option Answer)) → file ≡ small → answers ≡ zero_answers →
+    ArePrintable file answers
+zero_are_printable file answers is are =
+    subst (λ f. ArePrintable f answers) (sym is) (subst (ArePrintable small) (sym are) zero_printable)

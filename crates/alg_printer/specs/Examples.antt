@@ -1,7 +1,7 @@
 -- Examples that tests alone cite: terms over a few names, and answers to the goals of the small file.
-use Rattle.std.specs.Prelude.{◌≡◌, List, [], ◌∷◌, length, pos, negsuc, Option, Some}
+use Rattle.std.specs.Prelude.{◌≡◌, List, [], ◌∷◌, length, pos, negsuc, Option, None, Some}
 use Rattle.alg_lines.specs.declared.answer.Answer.{Answer}
-use Rattle.alg_lines.specs.declared.answer.Answer.TheVariants.{Proved, Certified}
+use Rattle.alg_lines.specs.declared.answer.Answer.TheVariants.{Proved, Certified, ZeroDenominator}
 use Rattle.alg_lines.specs.declared.cert.GoalStep.{GoalStep}
 use Rattle.alg_lines.specs.declared.cert.Line.{Line}
 use Rattle.alg_terms.specs.declared.file.File.{File}
@@ -36,3 +36,7 @@ image_answer = Certified (pos 2 ∷ []) (record { power = 1; lines = one_line; s
 -- both answers
 abbrev pub small_answers : List (Option Answer)
 small_answers = Some inverse_answer ∷ Some image_answer ∷ []
+
+-- a denominator that is zero for the first goal, and no answer to the second
+abbrev pub zero_answers : List (Option Answer)
+zero_answers = Some (ZeroDenominator (Var 1)) ∷ None ∷ []

@@ -64,7 +64,8 @@ module _ (file : File) (goal : Goal) where
   -- an answer no can be printed below a goal without uses that may have it
   no_may : (at : Monomial) (left right : ℤ) → ((l r : ℤ) → HasForm goal.method (No at l r)) →
       uses_of goal.method ≡ [] → IsMono nat_cmp at → length (own_table file goal.equation) ≤ MAX_ATOMS →
-      Each (λ k. k < length (own_table file goal.equation)) at → (unsigned_abs left ≤ MAX) × (unsigned_abs right ≤ MAX) →
+      Each (λ k. k < length (own_table file goal.equation)) at →
+      (unsigned_abs left ≤ MAX) × (unsigned_abs right ≤ MAX) →
       IsPrintable file goal (No at (handed left) (handed right))
   no_may at left right form none mono small over numbers =
       let Prints : ℤ → ℤ → Type 0 = λ l r. IsPrintable file goal (No at l r) in

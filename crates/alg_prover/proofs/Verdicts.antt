@@ -91,7 +91,8 @@ never_certified constants cert RingVerdict.Degree same = cc
 never_certified constants cert RingVerdict.Proved same = cc
 never_certified constants cert (RingVerdict.No m a b) same = cc
 
-never_by_field : (constants : List ℤ) (cert : Cert) (v : FieldVerdict) → Certified constants cert ≡ field_answer_of v → ⊥
+never_by_field : (constants : List ℤ) (cert : Cert) (v : FieldVerdict) → Certified constants cert ≡ field_answer_of v →
+    ⊥
 never_by_field constants cert FieldVerdict.Atoms same = cc
 never_by_field constants cert FieldVerdict.Range same = cc
 never_by_field constants cert FieldVerdict.Degree same = cc

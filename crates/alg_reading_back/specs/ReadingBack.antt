@@ -43,8 +43,7 @@ pub record IsReadToday (file : File) : Type 0 where
 -- ---- the law
 
 -- the text of a valid file, none of its goals answered, reads as the file by the whole grammar, the words included
--- that can't be
--- read yet
+-- that can't be read yet
 abbrev pub IsWrittenByGrammar : Type 0
 IsWrittenByGrammar = (file : File) → IsValid file → OpensFew file →
     IsReadingWith none_unread (text_of file (unanswered file)) (Ok file)

@@ -4,7 +4,7 @@ use Rattle.alg_terms.specs.declared.term.Atom.{Atom}
 use Rattle.alg_terms.specs.declared.term.Term.{Term}
 use Rattle.alg_terms.specs.declared.term.Term.TheVariants.{Var, Int, Neg, Add, Sub, Mul, Div, Pow, Hom}
 use Rattle.alg_terms.proofs.Built.{fold_term-Var, fold_term-Int, fold_term-Neg, fold_term-Pow, fold_term-Hom}
-use Rattle.alg_terms.proofs.Views.{Binary, binary, binary_node, each_binary, fold_binary}
+use Rattle.alg_terms.proofs.Views.{Unary, Binary, unary, binary, binary_node, each_binary, fold_binary}
 use Rattle.alg_reify.specs.Table.{leaves, node_leaves}
 
 -- what a fold gives at a path
@@ -26,6 +26,17 @@ leaves-Pow path t n = ap (At path) (fold_term-Pow node_leaves t n)
 
 pub leaves-Hom : (path : List ℕ) (f : ℕ) (t : Term) → leaves path (Hom f t) ≡ leaves (path ++ f ∷ []) t
 leaves-Hom path f t = ap (At path) (fold_term-Hom node_leaves f t)
+
+-- the path over the part of an operation
+abbrev pub path_below : Unary → List ℕ → List ℕ
+path_below Unary.Opposite path = path
+path_below (Unary.Power n) path = path
+path_below (Unary.Image f) path = path ++ f ∷ []
+
+pub leaves_unary : (path : List ℕ) (o : Unary) (t : Term) → leaves path (unary o t) ≡ leaves (path_below o path) t
+leaves_unary path Unary.Opposite t = leaves-Neg path t
+leaves_unary path (Unary.Power n) t = leaves-Pow path t n
+leaves_unary path (Unary.Image f) t = leaves-Hom path f t
 
 pub ruleset leaves_built = (leaves-Var, leaves-Int, leaves-Neg, leaves-Pow, leaves-Hom)
 

@@ -1,7 +1,10 @@
 -- Polynomials of the same norm and degree break the same rules.
-use Rattle.std.specs.Prelude.{◌≡◌, ℕ, ◌+◌, ◌*◌, ◌^◌, ◌||◌, false, cond, [], ◌∷◌}
+use Rattle.std.specs.Prelude.{◌≡◌, ℕ, ◌+◌, ◌*◌, ◌^◌, ◌||◌, false, cond}
+use Rattle.std.proofs.Common.{refl}
+use Rattle.alg_terms.proofs.Views.{Binary}
 use Rattle.alg_mono.specs.Polynomials.{PolyOver}
-use Rattle.alg_mono.specs.Outcomes.{Outcome, outcome, sum_outcome, product_outcome, power_outcome}
+use Rattle.alg_mono.specs.Outcomes.{Outcome, outcome, power_outcome}
+use Rattle.alg_meaning.proofs.Built.{binary_outcome}
 use Rattle.alg_reify.proofs.Undone.{IsLike}
 
 module _ {K L : Type 0} (p : PolyOver K) (r : PolyOver L) (h : IsLike p r) where
@@ -10,11 +13,10 @@ module _ {K L : Type 0} (p : PolyOver K) (r : PolyOver L) (h : IsLike p r) where
   power_like n = λ i. cond (h.nothing i) Outcome.Fine (outcome (h.norm i ^ n) (n * h.degree i))
 
   module _ (q : PolyOver K) (s : PolyOver L) (g : IsLike q s) where
-    -- the outcomes of a sum and of a difference
-    pub sum_like : sum_outcome p q ≡ sum_outcome r s
-    sum_like = λ i. outcome (h.norm i + g.norm i) 0
-
-    -- the outcome of a product
-    pub product_like : product_outcome (p ∷ q ∷ []) ≡ product_outcome (r ∷ s ∷ [])
-    product_like = λ i. cond (h.nothing i || (g.nothing i || false)) Outcome.Fine
+    -- the outcome that is an operation's own on two polynomials
+    pub own_like : (o : Binary) → binary_outcome o p q ≡ binary_outcome o r s
+    own_like Binary.Sum = λ i. outcome (h.norm i + g.norm i) 0
+    own_like Binary.Difference = λ i. outcome (h.norm i + g.norm i) 0
+    own_like Binary.Product = λ i. cond (h.nothing i || (g.nothing i || false)) Outcome.Fine
         (outcome (h.norm i * (g.norm i * 1)) ((0 + h.degree i) + g.degree i))
+    own_like Binary.Quotient = refl

@@ -7,8 +7,9 @@ use Rattle.std.specs.FinMap.{nat_cmp-IsAntisymmetric}
 use Rattle.std.specs.Ordering.{nat_cmp}
 use Rattle.alg_terms.specs.declared.term.Atom.{Atom}
 use Rattle.alg_terms.specs.declared.term.Term.{Term}
-use Rattle.alg_terms.specs.declared.term.Term.TheVariants.{Var, Int, Neg, Add, Sub, Mul, Pow, Hom}
-use Rattle.alg_terms.proofs.Built.{fold_term-Var, fold_term-Int, fold_term-Neg, fold_term-Add, fold_term-Sub, fold_term-Mul, fold_term-Pow, fold_term-Hom}
+use Rattle.alg_terms.specs.declared.term.Term.TheVariants.{Var, Int, Neg, Pow, Hom}
+use Rattle.alg_terms.proofs.Built.{fold_term-Var, fold_term-Int, fold_term-Neg, fold_term-Pow, fold_term-Hom}
+use Rattle.alg_terms.proofs.Views.{Binary, binary, binary_node, fold_binary}
 use Rattle.alg_mono.specs.FiniteMaps.{Each}
 use Rattle.alg_mono.specs.Numbers.{integers}
 use Rattle.alg_mono.specs.Polynomials.{PolyOver, IsPolynomial, poly_neg}
@@ -19,7 +20,7 @@ use Rattle.alg_meaning.specs.PolynomialOf.{node_poly, poly_of, poly_of_under}
 use Rattle.alg_meaning.proofs.Canonical.{IsPolynomial-poly_of}
 use Rattle.alg_reify.specs.Table.{leaves}
 use Rattle.alg_reify.specs.Numbered.{number_of, numbered, atom_at}
-use Rattle.alg_reify.proofs.Along.{along-variable, along-constant, along-neg, along-plus, along-minus, along-times, along-power, along-under, IsPolynomial-along}
+use Rattle.alg_reify.proofs.Along.{along-variable, along-constant, along-zero, along-neg, along-plus, along-minus, along-times, along-power, along-under, IsPolynomial-along}
 use Rattle.alg_reify.proofs.AtomsIn.{atoms_in}
 use Rattle.alg_reify.proofs.Images.{poly_image, image-plus, image-neg, image-minus, image-times, image-term, image-power}
 use Rattle.alg_reify.proofs.Numbering.{contained_numbered}
@@ -28,6 +29,13 @@ use Rattle.alg_reify.proofs.Undone.{IsLike, IsLike-trans, like_image, poly_back}
 -- the polynomial of a term under a path, over the numbers of the table
 abbrev pub made : List Atom → List ℕ → Term → PolyOver ℕ
 made atoms path t = numbered atoms (poly_of_under path t)
+
+-- an operation on two polynomials; a quotient counts as zero
+abbrev pub operation : Binary → PolyOver ℕ → PolyOver ℕ → PolyOver ℕ
+operation Binary.Sum p q = sum_of p q
+operation Binary.Difference p q = difference_of p q
+operation Binary.Product p q = product_of p q
+operation Binary.Quotient p q = []
 
 module _ (atoms : List Atom) (path : List ℕ) where
   -- a polynomial over atoms under the path, numbered
@@ -48,23 +56,25 @@ module _ (atoms : List Atom) (path : List ℕ) where
       ap at (fold_term-Neg node_poly t) ∙ ap (numbered atoms) (along-neg path (poly_of t))
       ∙ image-neg atom_total atom_anti nat_cmp_total nat_cmp-IsAntisymmetric (number_of atoms) (poly_of_under path t)
 
-  pub made-Add : (t u : Term) → made atoms path (Add t u) ≡ sum_of (made atoms path t) (made atoms path u)
-  made-Add t u =
-      ap at (fold_term-Add node_poly t u) ∙ ap (numbered atoms) (along-plus path (poly_of t) (poly_of u))
-      ∙ image-plus atom_total atom_anti nat_cmp_total nat_cmp-IsAntisymmetric (number_of atoms) (poly_of_under path t)
-      (poly_of_under path u)
+  -- an operation on two parts
+  at_binary : (o : Binary) (p q : Polynomial) → at (node_poly (binary_node o p q)) ≡ operation o (at p) (at q)
+  at_binary Binary.Sum p q =
+      ap (numbered atoms) (along-plus path p q)
+      ∙ image-plus atom_total atom_anti nat_cmp_total nat_cmp-IsAntisymmetric (number_of atoms) (poly_along path p)
+      (poly_along path q)
+  at_binary Binary.Difference p q =
+      ap (numbered atoms) (along-minus path p q)
+      ∙ image-minus atom_total atom_anti nat_cmp_total nat_cmp-IsAntisymmetric (number_of atoms) (poly_along path p)
+      (poly_along path q)
+  at_binary Binary.Product p q =
+      ap (numbered atoms) (along-times path p q)
+      ∙ image-times atom_total atom_anti nat_cmp_total nat_cmp-IsAntisymmetric (number_of atoms) (poly_along path p)
+      (poly_along path q)
+  at_binary Binary.Quotient p q = ap (numbered atoms) (along-zero path)
 
-  pub made-Sub : (t u : Term) → made atoms path (Sub t u) ≡ difference_of (made atoms path t) (made atoms path u)
-  made-Sub t u =
-      ap at (fold_term-Sub node_poly t u) ∙ ap (numbered atoms) (along-minus path (poly_of t) (poly_of u))
-      ∙ image-minus atom_total atom_anti nat_cmp_total nat_cmp-IsAntisymmetric (number_of atoms) (poly_of_under path t)
-      (poly_of_under path u)
-
-  pub made-Mul : (t u : Term) → made atoms path (Mul t u) ≡ product_of (made atoms path t) (made atoms path u)
-  made-Mul t u =
-      ap at (fold_term-Mul node_poly t u) ∙ ap (numbered atoms) (along-times path (poly_of t) (poly_of u))
-      ∙ image-times atom_total atom_anti nat_cmp_total nat_cmp-IsAntisymmetric (number_of atoms) (poly_of_under path t)
-      (poly_of_under path u)
+  pub made_binary : (o : Binary) (t u : Term) →
+      made atoms path (binary o t u) ≡ operation o (made atoms path t) (made atoms path u)
+  made_binary o t u = ap at (fold_binary node_poly o t u) ∙ at_binary o (poly_of t) (poly_of u)
 
   pub made-Pow : (t : Term) (n : ℕ) → made atoms path (Pow t n) ≡ power_of (made atoms path t) n
   made-Pow t n =

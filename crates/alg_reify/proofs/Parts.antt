@@ -2,25 +2,25 @@
 use Rattle.std.specs.Prelude.{◌≡◌, ℕ, ◌≤◌, ℤ, pos, ◌≤ℤ◌, List, [], ◌∷◌, ◌++◌, All, Contains}
 use Rattle.std.specs.Int.RustNames.{unsigned_abs}
 use Rattle.std.proofs.lemmas.Int.{ints}
-use Rattle.std.proofs.Common.{refl, sym, ap, subst, ◌∙◌, arith}
+use Rattle.std.proofs.Common.{sym, ap, subst, ◌∙◌, arith}
 use Rattle.std.proofs.lemmas.List.Elements.{recursion_from_All, All-from_recursion, All-head}
 use Rattle.alg_terms.specs.declared.term.Atom.{Atom}
 use Rattle.alg_terms.specs.declared.term.Term.{Term}
-use Rattle.alg_terms.specs.declared.term.Term.TheVariants.{Var, Int, Neg, Add, Sub, Mul, Div, Pow, Hom}
+use Rattle.alg_terms.specs.declared.term.Term.TheVariants.{Var, Int, Div}
 use Rattle.alg_terms.specs.Limits.{MAX_LITERAL}
 use Rattle.alg_terms.specs.Nodes.{EachNode}
 use Rattle.alg_terms.specs.TermRules.{HasLiteral, IsNoQuotient, HasNoQuotient}
-use Rattle.alg_terms.proofs.BuiltNodes.{EachNode-Neg, EachNode-Div, EachNode-Pow, EachNode-Hom}
-use Rattle.alg_terms.proofs.Views.{Binary, binary, nodes_binary}
-use Rattle.alg_mono.specs.Outcomes.{Outcome, first_breach, sum_outcome, product_outcome, power_outcome}
+use Rattle.alg_terms.proofs.BuiltNodes.{EachNode-Div}
+use Rattle.alg_terms.proofs.Views.{Unary, Binary, unary, binary, nodes_unary, nodes_binary}
+use Rattle.alg_mono.specs.Outcomes.{Outcome, first_breach}
 use Rattle.alg_mono.specs.Polynomials.{MAX}
 use Rattle.alg_meaning.specs.PolynomialOf.{poly_of}
 use Rattle.alg_meaning.specs.TermOutcome.{term_outcome}
-use Rattle.alg_meaning.proofs.Built.{term_outcome-Neg, term_outcome-Add, term_outcome-Sub, term_outcome-Mul, term_outcome-Pow, term_outcome-Hom}
+use Rattle.alg_meaning.proofs.Built.{unary_outcome, binary_outcome, term_outcome_unary, term_outcome_binary}
 use Rattle.alg_reify.specs.Table.{leaves}
 use Rattle.alg_reify.specs.Making.{IsOver}
 use Rattle.alg_reify.proofs.AtomsIn.{both_parts}
-use Rattle.alg_reify.proofs.Leaves.{leaves_binary, leaves-Var, leaves-Neg, leaves-Pow, leaves-Hom}
+use Rattle.alg_reify.proofs.Leaves.{path_below, leaves_unary, leaves_binary, leaves-Var}
 
 -- a term of one part, which stands under the path `inner`: the part is made first, and then what is the node's own
 pub record HasPart (t part : Term) (path inner : List ℕ) (own : Outcome) : Type 0 where
@@ -36,71 +36,33 @@ pub record HasParts (t l r : Term) (own : Outcome) : Type 0 where
   pub leaves : (path : List ℕ) → leaves path t ≡ leaves path l ++ leaves path r
   pub outcome : term_outcome t ≡ first_breach (term_outcome l) (first_breach (term_outcome r) own)
 
--- what is fine comes after nothing
-nothing_own : (o : Outcome) → o ≡ first_breach o Outcome.Fine
-nothing_own Outcome.Fine = refl
-nothing_own Outcome.Range = refl
-nothing_own Outcome.Degree = refl
-
--- the nodes with one part
-pub part-Neg : (path : List ℕ) (t s part : Term) → t ≡ Neg s → part ≡ s → HasPart t part path path Outcome.Fine
-part-Neg path t s part e p =
-    let P : Term → Type 0 = λ x. HasPart x part path path Outcome.Fine in
-    subst P (sym (e ∙ ap Neg (sym p))) record {
-      literals = λ h. ((EachNode-Neg HasLiteral part).0 h).1;
-      plain = λ h. ((EachNode-Neg IsNoQuotient part).0 h).1;
-      leaves = leaves-Neg path part;
-      outcome = term_outcome-Neg part ∙ nothing_own (term_outcome part);
-    }
-
-pub part-Pow : (path : List ℕ) (t s part : Term) (n : ℕ) → t ≡ Pow s n → part ≡ s →
-    HasPart t part path path (power_outcome (poly_of part) n)
-part-Pow path t s part n e p =
-    let P : Term → Type 0 = λ x. HasPart x part path path (power_outcome (poly_of part) n) in
-    subst P (sym (e ∙ ap (λ x. Pow x n) (sym p))) record {
-      literals = λ h. ((EachNode-Pow HasLiteral part n).0 h).1;
-      plain = λ h. ((EachNode-Pow IsNoQuotient part n).0 h).1;
-      leaves = leaves-Pow path part n;
-      outcome = term_outcome-Pow part n;
-    }
-
-pub part-Hom : (path : List ℕ) (f : ℕ) (t s part : Term) → t ≡ Hom f s → part ≡ s →
-    HasPart t part path (path ++ f ∷ []) Outcome.Fine
-part-Hom path f t s part e p =
-    let P : Term → Type 0 = λ x. HasPart x part path (path ++ f ∷ []) Outcome.Fine in
-    subst P (sym (e ∙ ap (Hom f) (sym p))) record {
-      literals = λ h. ((EachNode-Hom HasLiteral f part).0 h).1;
-      plain = λ h. ((EachNode-Hom IsNoQuotient f part).0 h).1;
-      leaves = leaves-Hom path f part;
-      outcome = term_outcome-Hom f part ∙ nothing_own (term_outcome part);
+-- an operation on one part
+pub part : (o : Unary) (path : List ℕ) {t s inner : Term} → t ≡ unary o s → inner ≡ s →
+    HasPart t inner path (path_below o path) (unary_outcome o (poly_of inner))
+part o path {t = t} {s = s} {inner = inner} e p =
+    let P : Term → Type 0 = λ x. HasPart x inner path (path_below o path) (unary_outcome o (poly_of inner)) in
+    subst P (sym (e ∙ ap (unary o) (sym p))) record {
+      literals = λ h. ((nodes_unary HasLiteral o inner).0 h).1;
+      plain = λ h. ((nodes_unary IsNoQuotient o inner).0 h).1;
+      leaves = leaves_unary path o inner;
+      outcome = term_outcome_unary o inner;
     }
 
 -- both parts, each as it was taken out
 at_parts : (node : Term → Term → Term) (t a b l r : Term) → t ≡ node a b → l ≡ a → r ≡ b → node l r ≡ t
 at_parts node t a b l r e p q = sym (e ∙ (λ i. node (sym p i) (sym q i)))
 
--- an operation on two parts, where this is what its outcome comes to
-parts_of : (o : Binary) (t a b l r : Term) (own : Outcome) → t ≡ binary o a b → l ≡ a → r ≡ b →
-    term_outcome (binary o l r) ≡ first_breach (term_outcome l) (first_breach (term_outcome r) own) → HasParts t l r own
-parts_of o t a b l r own e p q outcome =
-    let P : Term → Type 0 = λ x. HasParts x l r own in
+-- an operation on two parts
+pub parts : (o : Binary) {t a b l r : Term} → t ≡ binary o a b → l ≡ a → r ≡ b →
+    HasParts t l r (binary_outcome o (poly_of l) (poly_of r))
+parts o {t = t} {a = a} {b = b} {l = l} {r = r} e p q =
+    let P : Term → Type 0 = λ x. HasParts x l r (binary_outcome o (poly_of l) (poly_of r)) in
     subst P (at_parts (binary o) t a b l r e p q) record {
       literals = λ h. let k = (nodes_binary HasLiteral o l r).0 h in (k.1, k.2);
       plain = λ h. let k = (nodes_binary IsNoQuotient o l r).0 h in (k.1, k.2);
       leaves = λ path. leaves_binary path o l r;
-      outcome = outcome;
+      outcome = term_outcome_binary o l r;
     }
-
--- a sum, a difference and a product
-pub parts-Add : (t a b l r : Term) → t ≡ Add a b → l ≡ a → r ≡ b → HasParts t l r (sum_outcome (poly_of l) (poly_of r))
-parts-Add t a b l r e p q = parts_of Binary.Sum t a b l r _ e p q (term_outcome-Add l r)
-
-pub parts-Sub : (t a b l r : Term) → t ≡ Sub a b → l ≡ a → r ≡ b → HasParts t l r (sum_outcome (poly_of l) (poly_of r))
-parts-Sub t a b l r e p q = parts_of Binary.Difference t a b l r _ e p q (term_outcome-Sub l r)
-
-pub parts-Mul : (t a b l r : Term) → t ≡ Mul a b → l ≡ a → r ≡ b →
-    HasParts t l r (product_outcome (poly_of l ∷ poly_of r ∷ []))
-parts-Mul t a b l r e p q = parts_of Binary.Product t a b l r _ e p q (term_outcome-Mul l r)
 
 -- ---- what is asked of a term is so of its parts
 pub over_part : (atoms : List Atom) (path inner : List ℕ) (t part : Term) (own : Outcome) →
@@ -119,7 +81,7 @@ pub over_inner : (atoms : List Atom) (path inner : List ℕ) (t part : Term) (ow
 over_inner atoms path inner t part own h over pushed e =
     let P : List ℕ → Type 0 = λ x. IsOver atoms x part in subst P (sym e) (over_part atoms path inner t part own h over)
 
-module _ (atoms : List Atom) (path : List ℕ) (t l r : Term) (own : Outcome) (h : HasParts t l r own)
+module _ {atoms : List Atom} {path : List ℕ} {t l r : Term} {own : Outcome} (h : HasParts t l r own)
     (over : IsOver atoms path t) where
   -- the atoms of both parts
   held_parts : All (Contains atoms) (leaves path l) × All (Contains atoms) (leaves path r)
@@ -139,8 +101,8 @@ module _ (atoms : List Atom) (path : List ℕ) (t l r : Term) (own : Outcome) (h
       record { literals = (h.literals over.literals).1; plain = (h.plain over.plain).1; held = held_parts.1 }
 
   -- the path is as before where the right part is made
-  pub over_right_after : (after : List ℕ) → after ≡ path → IsOver atoms after r
-  over_right_after after e = let P : List ℕ → Type 0 = λ x. IsOver atoms x r in subst P (sym e) over_right
+  pub over_right_after : {after : List ℕ} → after ≡ path → IsOver atoms after r
+  over_right_after e = let P : List ℕ → Type 0 = λ x. IsOver atoms x r in subst P (sym e) over_right
 
 -- what the rule on literals says
 bounds : (n : ℤ) → EachNode HasLiteral (Int n) → (pos 0 ≤ℤ n) × (n ≤ℤ MAX_LITERAL)

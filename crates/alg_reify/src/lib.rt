@@ -2,8 +2,9 @@
 //!
 //! A goal's table has its atoms in the order of their first occurrence ([`atoms_of`]). [`reify`] makes
 //! the polynomial of a term over the numbers of a table, node by node, within the limits on norm and
-//! degree. `specs/RingVerdict.antt` defines the answer to a goal by ring, and [`laws`] has what holds
-//! of it. The words of the contracts are in `specs/Table.antt` and `specs/Numbered.antt`.
+//! degree. `specs/RingVerdict.antt` and `specs/FieldVerdict.antt` define the answers to goals by ring
+//! and by field, and [`laws`] has what holds of them. The words of the contracts are in
+//! `specs/Table.antt`, `specs/Numbered.antt` and `specs/FractionsUnder.antt`.
 #![tactic(auto)]
 
 mod atoms;

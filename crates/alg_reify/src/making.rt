@@ -88,7 +88,7 @@ fn make<P: PolynomialForm>(
     }
 }
 
-/// The polynomial that is one atom of the table.
+/// The polynomial that is one atom of the table, a variable under a path: one look-up by its hash.
 pub fn make_atom<P: PolynomialForm>(
     alloc: Global,
     table: &Atoms,

@@ -57,9 +57,8 @@ pub fn decide_ring(alloc: Global, file: &File, equation: &Equation) -> Result<Ri
     })
 }
 
-/// Whether two polynomials are equal, or else where they first differ. Their terms are listed only
-/// where their forms differ.
-pub fn compare(alloc: Global, left: &HornerPoly, right: &HornerPoly) -> Result<RingAnswer, NoMemory>
+/// Whether two polynomials are equal, or else where they first differ.
+fn compare(alloc: Global, left: &HornerPoly, right: &HornerPoly) -> Result<RingAnswer, NoMemory>
     ensures { IfOk result (IsComparison left.now right.now) }
 {
     if left.same(right) {

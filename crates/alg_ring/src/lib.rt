@@ -12,4 +12,4 @@ mod tests;
 pub use alg_horner::HornerPoly;
 pub use alg_poly::Poly;
 pub use alg_reify::{Mono, NoMemory, Stop};
-pub use decide::{RingAnswer, RingDecision, compare, decide_ring, to_poly};
+pub use decide::{RingAnswer, RingDecision, decide_ring, to_poly};

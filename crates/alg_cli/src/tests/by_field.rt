@@ -162,23 +162,54 @@ pub(super) const ANSWERED: [Answered; 26] = [
     },
 ];
 
+/// Goals by both methods.
+const SIDE_BY_SIDE: &[u8] = b"ring R.
+field F char 0.
+hom f : R -> F.
+var a b : R.
+var u v w t : F.
+goal (a + b)*(a - b) = a^2 - b^2 by ring.
+goal f(a*b + 1) = f(a)*f(b) + 1 by ring.
+goal u/v + w/t = (u*t + w*v)/(v*t) by field.
+goal 1/(u - v) - 1/(u + v) = 2*v/(u^2 - v^2) by field.
+goal f(a)/2 + f(a)/2 = f(a) by field.
+";
+
+/// And with their answers.
+const SIDE_BY_SIDE_ANSWERED: &str = "ring R.
+field F char 0.
+hom f : R -> F.
+var a b : R.
+var u v w t : F.
+goal (a + b)*(a - b) = a^2 - b^2 by ring.
+  proved.
+goal f(a*b + 1) = f(a)*f(b) + 1 by ring.
+  proved.
+goal u/v + w/t = (u*t + w*v)/(v*t) by field.
+  proved if v <> 0, t <> 0, v*t <> 0.
+goal 1/(u - v) - 1/(u + v) = 2*v/(u^2 - v^2) by field.
+  proved if u - v <> 0, u + v <> 0, u^2 - v^2 <> 0.
+goal f(a)/2 + f(a)/2 = f(a) by field.
+  proved.
+";
+
 pub(super) const ROWS: [Row; 7] = [
     Row {
         shows: "goals by ring and by field stand side by side",
-        input: b"ring R.\nfield F char 0.\nhom f : R -> F.\nvar a b : R.\nvar u v w t : F.\ngoal (a + b)*(a - b) = a^2 - b^2 by ring.\ngoal f(a*b + 1) = f(a)*f(b) + 1 by ring.\ngoal u/v + w/t = (u*t + w*v)/(v*t) by field.\ngoal 1/(u - v) - 1/(u + v) = 2*v/(u^2 - v^2) by field.\ngoal f(a)/2 + f(a)/2 = f(a) by field.\n",
-        output: "ring R.\nfield F char 0.\nhom f : R -> F.\nvar a b : R.\nvar u v w t : F.\ngoal (a + b)*(a - b) = a^2 - b^2 by ring.\n  proved.\ngoal f(a*b + 1) = f(a)*f(b) + 1 by ring.\n  proved.\ngoal u/v + w/t = (u*t + w*v)/(v*t) by field.\n  proved if v <> 0, t <> 0, v*t <> 0.\ngoal 1/(u - v) - 1/(u + v) = 2*v/(u^2 - v^2) by field.\n  proved if u - v <> 0, u + v <> 0, u^2 - v^2 <> 0.\ngoal f(a)/2 + f(a)/2 = f(a) by field.\n  proved.\n",
+        input: SIDE_BY_SIDE,
+        output: SIDE_BY_SIDE_ANSWERED,
         status: Status::Done,
     },
     Row {
         shows: "a quotient stands where the sort is no field",
-        input: b"ring R.\nfield F.\nhom f : R -> F.\nhom g : F -> R.\nvar x : R.\nvar y : F.\ngoal f(x/x) = 1 by field.\n",
-        output: "refused 13 at 79\n",
+        input: b"ring R.\nfield F.\nhom f : R -> F.\nvar x : R.\ngoal f(x/x) = 1 by field.\n",
+        output: "refused 13 at 52\n",
         status: Status::Refused,
     },
     Row {
         shows: "a quotient stands below a morphism to a ring",
-        input: b"ring R.\nfield F.\nhom f : R -> F.\nhom g : F -> R.\nvar x : R.\nvar y : F.\ngoal f(g(1/y)) = 1 by field.\n",
-        output: "refused 13 at 81\n",
+        input: b"ring R.\nfield F.\nhom f : R -> F.\nhom g : F -> R.\nvar y : F.\ngoal f(g(1/y)) = 1 by field.\n",
+        output: "refused 13 at 70\n",
         status: Status::Refused,
     },
     Row {

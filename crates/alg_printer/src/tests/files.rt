@@ -244,3 +244,25 @@ fn a_file_is_printed_with_its_answers(rt: HostRuntime) -> Result<(), Fail> {
     assert_eq!(rt; text.as_slice(), WANT.as_bytes());
     Ok(())
 }
+
+const WANT_ZERO: &str = "ring _.
+field _'.
+hom _'' : _ -> _'.
+var _''' : _.
+var _'''' : _'.
+hyp _''''' : _'''^2 = 4.
+goal 1/_'''' = _'''' by field.
+  zero denominator _''''.
+goal _''(_''')^2 = 4 by nsatz using _''(_''''') power 1 limit 10000.
+";
+
+#[test]
+fn a_denominator_that_is_zero_is_printed(rt: HostRuntime) -> Result<(), Fail> {
+    let alloc = rt.alloc();
+    let file = small_file(alloc)?;
+    let denominator = Term::Var(1);
+    let answers = [Some(Answer::ZeroDenominator { denominator }), None];
+    let text = file_text(alloc, &file, &answers)?;
+    assert_eq!(rt; text.as_slice(), WANT_ZERO.as_bytes());
+    Ok(())
+}

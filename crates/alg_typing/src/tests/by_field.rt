@@ -15,8 +15,16 @@ const FIELD: &'static str = "field F.\nvar x : F.\n";
 
 const FIELDS: &'static str = "field F.\nfield K.\nvar x : F.\nvar y : K.\n";
 
-const MAPS: &'static str =
-    "ring R.\nfield F.\nfield K.\nhom f : R -> F.\nhom g : F -> R.\nhom h : F -> K.\nvar x : R.\nvar y : F.\nvar z : K.\n";
+const MAPS: &'static str = "ring R.
+field F.
+field K.
+hom f : R -> F.
+hom g : F -> R.
+hom h : F -> K.
+var x : R.
+var y : F.
+var z : K.
+";
 
 /// Each row: declarations, a goal, and what they are together.
 const GOALS: [(&'static str, &'static str, Found); 20] = [

@@ -1,5 +1,4 @@
-use Rattle.std.proofs.Common.{◌≡◌, ◌≢◌, ◌++◌, [], List, sym, subst, ◌∙◌, arith, rules, length}
-use Rattle.alg_mono.specs.NumberedPolynomials.{Polynomial}
+use Rattle.std.proofs.Common.{◌≡◌, ◌≢◌, ◌++◌, [], List, sym, subst, arith, rules, length}
 use Rattle.alg_lines.specs.declared.cert.Line.{Line}
 use Rattle.alg_lines.specs.Accepting.{Accepting, HasPower, Begins, AreLines, bad_power}
 use Rattle.alg_check.specs.Checking.{FollowsLines, FollowsSteps, BreaksAtLine, acceptance_of}
@@ -69,7 +68,8 @@ returns-clause-answer c =
     subst (AreLines hyps cert.lines) all
     (subst (λ (ls : List Line). AreLines hyps ls (hyps ++ made)) c.items-lines.ensures followed) in
     let n = length c.items-lines.result.now in
-    let steps = subst (FollowsSteps (hyps ++ c.deref.result.now) c.in_ok-first.first c.items-steps.result.now n) c.in-To.is
+    let steps = subst (FollowsSteps (hyps ++ c.deref.result.now) c.in_ok-first.first c.items-steps.result.now n)
+    c.in-To.is
     c.in_ok-number-2.ensures in
     elim c.if-is_zero.branch [
       | then-is_zero w ↦

@@ -16,5 +16,6 @@ returns c =
     let b : SFits w128 step.b = search rules in
     let d : SFits w128 step.d = search rules in
     if_ok c.divided.result
-    (next_remainder_is lines c.args.before.now step line factor c.one-one.result c.line-q.result.now c.one-one.ensures c.line-q.ensures)
+    (next_remainder_is lines c.args.before.now step line factor c.one-one.result c.line-q.result.now c.one-one.ensures
+    c.line-q.ensures)
     (simp to_z-of_z at c.divided.ensures)

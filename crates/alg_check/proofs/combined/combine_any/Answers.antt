@@ -12,7 +12,8 @@ returns c =
     let b : SFits w128 c.args.b = search rules in
     let x : SFits w128 c.factor_of-left.result = search rules in
     let y : SFits w128 c.factor_of-right.result = search rules in
-    let left : IsFactor c.args.a c.args.p.now c.factor_of-left.result = simp to_z-of_z at c.factor_of-left.ensures.factor in
+    let left : IsFactor c.args.a c.args.p.now c.factor_of-left.result =
+    simp to_z-of_z at c.factor_of-left.ensures.factor in
     let right : IsFactor c.args.b c.args.q.now c.factor_of-right.result =
     simp to_z-of_z at c.factor_of-right.ensures.factor in
     makes_any c.args.a c.factor_of-left.result c.args.m.now c.args.p.now c.args.b c.factor_of-right.result

@@ -1,12 +1,9 @@
-use Rattle.std.proofs.Common.{◌≡◌, ◌≢◌, sym, subst, ◌∙◌, rules, arith, pos}
+use Rattle.std.proofs.Common.{◌≢◌, sym, subst, ◌∙◌, rules, arith, pos}
 use mir.Syntax.{w128}
 use mir.Val.{SFits}
 use Rattle.std.proofs.lemmas.Int.{to_z-of_z, ints}
-use Rattle.alg_mono.specs.Outcomes.{combine_outcome}
-use Rattle.alg_lines.specs.Lines.{combination}
-use Rattle.alg_poly.specs.Divisors.{IsDivisible, times_number}
+use Rattle.alg_poly.specs.Divisors.{IsDivisible}
 use Rattle.alg_poly.proofs.Zeros.{multiple_is_times}
-use Rattle.alg_check.specs.Checking.{Makes}
 use Rattle.alg_check.proofs.combined.divided.Goals as goal
 
 pub returns-then-not-divisible_by : goal.returns-then-not-divisible_by

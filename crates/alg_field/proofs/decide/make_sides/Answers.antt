@@ -34,5 +34,6 @@ returns c =
     let first = subst Q c.new-path.ensures.items c.in_ok-left.ensures in
     let made = c.in_ok-left-2.ensures in
     sides_made c.args.file.now c.args.equation.now c.args.table.now c.requires.table c.has_char0-char0.result
-    _ _ _ _ _ c.in_ok-left.left c.in_ok-right.right c.new-conditions.ensures.items first c.in_ok-right.ensures _ made.left
+    _ _ _ _ _ c.in_ok-left.left c.in_ok-right.right c.new-conditions.ensures.items first c.in_ok-right.ensures _
+    made.left
     made.right made.fine refl c.has_char0-char0.ensures

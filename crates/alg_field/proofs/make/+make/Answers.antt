@@ -3,10 +3,11 @@ use Rattle.std.specs.Int.{w128}
 use Rattle.std.specs.declared.result.Result.TheVariants.{Ok}
 use Rattle.std.proofs.lemmas.List.{length-append}
 use Rattle.alg_terms.specs.declared.term.Term.TheViews.{the_lemmas}
+use Rattle.alg_terms.proofs.Views.{Unary}
 use Rattle.alg_reify.proofs.Parts.{literal, held_atom}
 use Rattle.alg_field.specs.Making.{IsMade, IsOver}
 use Rattle.alg_field.proofs.TermLeaves.{literal_made, variable_made}
-use Rattle.alg_field.proofs.TermParts.{part-Neg, part-Pow, part-Hom}
+use Rattle.alg_field.proofs.TermParts.{part}
 use Rattle.alg_field.proofs.TermMade.{unpushed, handed_on, part_over, part_failed, part_made, left_over, right_over, left_failed, right_failed, both_made}
 use Rattle.alg_field.proofs.make.+make.Goals as goal
 
@@ -39,7 +40,7 @@ make-requires t c =
     let path = c.args.path.now.items in (
       search (rules, the_lemmas),
       part_over c.args.char0 c.args.table.now path c.args.term.now path _ _ _
-          (part-Neg c.args.table.now path _ _ _ c.in-Neg.is c.get.ensures) c.requires,
+          (part c.args.table.now path Unary.Opposite c.in-Neg.is c.get.ensures) c.requires,
     )
 
 pub returns-in_err-part-in-Neg : goal.returns-in_err-part-in-Neg
@@ -47,14 +48,14 @@ returns-in_err-part-in-Neg t c =
     let path = c.args.path.now.items in
     handed_on c.args.char0 c.args.table.now path c.args.term.now _ _ _ _ _ c.from_residual-in_err-part-in-Neg.ensures.1
     (part_failed c.args.char0 c.args.table.now path c.args.term.now path _ _ _
-    (part-Neg c.args.table.now path _ _ _ c.in-Neg.is c.get.ensures) c.requires _ c.in_err-part-in-Neg.ensures)
+    (part c.args.table.now path Unary.Opposite c.in-Neg.is c.get.ensures) c.requires _ c.in_err-part-in-Neg.ensures)
 
 pub returns-in_ok-opposite-in-Neg : goal.returns-in_ok-opposite-in-Neg
 returns-in_ok-opposite-in-Neg t c =
     let path = c.args.path.now.items in
     let made = c.in_ok-part-in-Neg.ensures in
     part_made c.args.char0 c.args.table.now path c.args.term.now path _ _ _
-    (part-Neg c.args.table.now path _ _ _ c.in-Neg.is c.get.ensures) c.requires _ _ _ _ _
+    (part c.args.table.now path Unary.Opposite c.in-Neg.is c.get.ensures) c.requires _ _ _ _ _
     (Ok c.in_ok-opposite-in-Neg.field-0) made (c.in_ok-opposite-in-Neg.ensures, refl) made.back
 
 -- a power
@@ -63,7 +64,7 @@ make-requires-in-Pow t c =
     let path = c.args.path.now.items in (
       search (rules, the_lemmas),
       part_over c.args.char0 c.args.table.now path c.args.term.now path _ _ _
-          (part-Pow c.args.table.now path _ _ _ _ c.in-Pow.is c.get-in-Pow.ensures) c.requires,
+          (part c.args.table.now path (Unary.Power _) c.in-Pow.is c.get-in-Pow.ensures) c.requires,
     )
 
 pub returns-in_err-part-in-Pow : goal.returns-in_err-part-in-Pow
@@ -71,14 +72,16 @@ returns-in_err-part-in-Pow t c =
     let path = c.args.path.now.items in
     handed_on c.args.char0 c.args.table.now path c.args.term.now _ _ _ _ _ c.from_residual-in_err-part-in-Pow.ensures.1
     (part_failed c.args.char0 c.args.table.now path c.args.term.now path _ _ _
-    (part-Pow c.args.table.now path _ _ _ _ c.in-Pow.is c.get-in-Pow.ensures) c.requires _ c.in_err-part-in-Pow.ensures)
+    (part c.args.table.now path (Unary.Power _) c.in-Pow.is c.get-in-Pow.ensures) c.requires _
+    c.in_err-part-in-Pow.ensures)
 
 pub returns-in_ok-part-in-Pow : goal.returns-in_ok-part-in-Pow
 returns-in_ok-part-in-Pow t c =
     let path = c.args.path.now.items in
     let made = c.in_ok-part-in-Pow.ensures in
     part_made c.args.char0 c.args.table.now path c.args.term.now path _ _ _
-    (part-Pow c.args.table.now path _ _ _ _ c.in-Pow.is c.get-in-Pow.ensures) c.requires _ _ _ _ _ c.ended.result made
+    (part c.args.table.now path (Unary.Power _) c.in-Pow.is c.get-in-Pow.ensures) c.requires _ _ _ _ _ c.ended.result
+    made
     (c.ended.ensures _ _ c.power.ensures) made.back
 
 -- an image
@@ -89,7 +92,7 @@ make-requires-in-Hom t c =
       search (rules, the_lemmas),
       subst P (sym c.in_ok-push-in-Hom.ensures.items)
           (part_over c.args.char0 c.args.table.now path c.args.term.now _ _ _ _
-          (part-Hom c.args.table.now path _ _ _ _ c.in-Hom.is c.get-in-Hom.ensures) c.requires),
+          (part c.args.table.now path (Unary.Image _) c.in-Hom.is c.get-in-Hom.ensures) c.requires),
     )
 
 pub returns-in_err-image-in-Hom : goal.returns-in_err-image-in-Hom
@@ -97,7 +100,7 @@ returns-in_err-image-in-Hom t c =
     let path = c.args.path.now.items in
     handed_on c.args.char0 c.args.table.now path c.args.term.now _ _ _ _ _ c.from_residual-in_err-image-in-Hom.ensures.1
     (part_failed c.args.char0 c.args.table.now path c.args.term.now _ _ _ _
-    (part-Hom c.args.table.now path _ _ _ _ c.in-Hom.is c.get-in-Hom.ensures) c.requires _
+    (part c.args.table.now path (Unary.Image _) c.in-Hom.is c.get-in-Hom.ensures) c.requires _
     c.in_err-image-in-Hom.ensures)
 
 pub returns-in_ok-image-in-Hom : goal.returns-in_ok-image-in-Hom
@@ -114,7 +117,7 @@ returns-in_ok-image-in-Hom t c =
     let back : c.pop.new.self.items ≡ path = unpushed path c.pop.new.self.items c.in-Hom.morphism c.pop.result
     (sym pushed ∙ c.pop.ensures.items) (c.pop.ensures.variant.1 some) in
     part_made c.args.char0 c.args.table.now path c.args.term.now _ _ _ _
-    (part-Hom c.args.table.now path _ _ _ _ c.in-Hom.is c.get-in-Hom.ensures) c.requires _ _ _ _ _
+    (part c.args.table.now path (Unary.Image _) c.in-Hom.is c.get-in-Hom.ensures) c.requires _ _ _ _ _
     (Ok image.image) made (refl, refl) back
 
 -- two parts

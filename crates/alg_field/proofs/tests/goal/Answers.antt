@@ -1,5 +1,5 @@
-use Rattle.std.proofs.Common.{arith, ◌∙◌, ap, slice_index_or}
-use Rattle.alg_field.proofs.Tried.{deeper, sides_are_equation, first_of}
+use Rattle.std.proofs.Common.{arith}
+use Rattle.alg_field.proofs.Tried.{deeper}
 use Rattle.alg_field.proofs.tests.goal.Goals as goal
 
 pub returns : goal.returns
@@ -8,10 +8,8 @@ returns c =
     let there = c.requires in
     let inner = c.in_ok-inner.ensures file 4 (omega arith) (c.in_ok-power.ensures file there)
     (c.in_ok-power-2.ensures file there) in
-    let left = c.in_ok-quotient.ensures file 5 (omega arith)
+    let left = c.in_ok-left.ensures file 5 (omega arith)
     (deeper file 4 5 _ (omega arith) (c.in_ok-power-3.ensures file there)) inner in
-    let right = c.in_ok-quotient-2.ensures file 4 (omega arith) (c.in_ok-power-4.ensures file there)
+    let right = c.in_ok-right.ensures file 4 (omega arith) (c.in_ok-power-4.ensures file there)
     (c.in_ok-power-5.ensures file there) in
-    sides_are_equation file 6 _ _ left (deeper file 5 6 _ (omega arith) right) _
-    (ap (λ vars. (slice_index_or vars 0 c.index-items-0.result).sort) c.items.ensures
-    ∙ ap (λ v. v.sort) (first_of file.vars c.index-items-0.result _ there))
+    c.equation.ensures 6 left (deeper file 5 6 _ (omega arith) right)

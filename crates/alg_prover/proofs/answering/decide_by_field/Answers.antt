@@ -32,6 +32,7 @@ returns-clause-printable c =
     let file = c.args.file.now in
     let goal = c.args.goal.now in
     let Told : FieldAnswer → Type 0 = λ answer. IsFieldVerdict file goal.equation (verdict_of answer) in
-    let is : c.in_ok-answer.field-0.answer ≡ FieldAnswer.ZeroDenominator c.in-ZeroDenominator.denominator = c.in-ZeroDenominator.is in
+    let is : c.in_ok-answer.field-0.answer ≡ FieldAnswer.ZeroDenominator c.in-ZeroDenominator.denominator =
+    c.in-ZeroDenominator.is in
     denominator_is_printable file goal c.field_terms_may_stand.ensures c.requires.goal c.requires.by_field
     c.in-ZeroDenominator.denominator (subst Told is c.in_ok-answer.ensures.answer)
