@@ -1,11 +1,12 @@
 //! Products of polynomials, and tasks made by hand with what is found for them.
 
 use crate::decide::answer;
-use crate::laws::one_nsatz_verdict;
+use crate::laws::{certificates, one_nsatz_verdict};
 use crate::preparing::Task;
 use crate::product::product;
 use crate::{NsatzAnswer, Poly};
 use alg_reify::{Mono, Overrun};
+use alg_universe::Ints;
 use std::alloc::Global;
 use std::process::Abort;
 use std::test::Fail;
@@ -150,6 +151,7 @@ fn a_certificate_has_the_constants_that_it_divides_by(rt: HostRuntime) -> Result
 }
 
 #[test]
-fn the_law_is_called() {
+fn the_laws_are_called() {
     one_nsatz_verdict();
+    certificates::<Ints>();
 }
