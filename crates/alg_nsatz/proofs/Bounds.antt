@@ -48,5 +48,6 @@ module _ (p : Polynomial) (qs : List Polynomial) (first : is_nothing p ≡ false
     (o : Outcome) where
   pub outcome_says : Says (norm p * norm_product qs) (poly_degree p + degrees qs) o → product_outcome (p ∷ qs) ≡ o
   outcome_says h =
-      (λ i. cond (first i || others i) Outcome.Fine (outcome (norm p * norm_product qs) (sum_by-cons poly_degree p qs i)))
+      (λ i. cond (first i || others i) Outcome.Fine
+      (outcome (norm p * norm_product qs) (sum_by-cons poly_degree p qs i)))
       ∙ said (norm p * norm_product qs) (poly_degree p + degrees qs) o h

@@ -42,7 +42,8 @@ pub record IsSmall (t : Task) : Type 0 where
   pub powers : t.power ≤ 16
   pub limited : t.limit ≤ 1000000
 
-small_by : (file : File) (e : Equation) (method : Method) (t : Task) → MayBeBy file e method → IsTaskBy file e method t →
+small_by : (file : File) (e : Equation) (method : Method) (t : Task) → MayBeBy file e method →
+    IsTaskBy file e method t →
     IsSmall t
 small_by file e ByRing t is h = absurd h
 small_by file e ByField t is h = absurd h

@@ -6,3 +6,6 @@ pub mod NormsSome
 pub mod OneVerdict
 pub mod Tasks
 pub mod Turns
+pub mod ConstantsOf
+pub mod Primes
+pub mod CertificateValues

@@ -94,7 +94,8 @@ module _ (one : OneEnd) (file : File) (e : Equation) (uses : List Use) (power li
   one_came v w (searched few x last end comes p) (range also y q) = absurd (cc)
   one_came v w (searched few x last end comes p) (degree also y q) = absurd (cc)
   one_came v w (searched few x a end comes p) (searched also y b other goes q) =
-      let same = one_end one (prepared_hyps file e uses) (prepared_goal file e uses) power limit a b end other comes goes
+      let same = one_end one (prepared_hyps file e uses) (prepared_goal file e uses) power limit a b end other comes
+      goes
       in
       p ∙ (λ i. verdict_at (same.0 i) (same.1 i)) ∙ sym q
 
@@ -103,7 +104,8 @@ one_by : OneEnd → (file : File) (e : Equation) (method : Method) (v w : NsatzV
 one_by one file e ByRing v w h g = absurd h
 one_by one file e ByField v w h g = absurd h
 one_by one file e (ByNsatz uses power limit) v w h g =
-    one_came one file e uses power limit v w (came one file e uses power limit v h) (came one file e uses power limit w g)
+    one_came one file e uses power limit v w (came one file e uses power limit v h)
+    (came one file e uses power limit w g)
 
 pub one_nsatz_verdict : OneEnd → OneNsatzVerdict
 one_nsatz_verdict one file goal v w h g = one_by one file goal.equation goal.method v w h g

@@ -4,3 +4,4 @@ pub mod Tasks
 pub mod Verdict
 pub mod Answers
 pub mod Laws
+pub mod Certificates

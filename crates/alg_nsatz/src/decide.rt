@@ -40,7 +40,7 @@ fn has_char0(file: &File, goal: u32) -> bool
 }
 
 /// Searches a certificate for a task, and adds its constants.
-fn answer(alloc: Global, task: &Task, char0: bool) -> Result<NsatzAnswer, Overrun>
+pub(crate) fn answer(alloc: Global, task: &Task, char0: bool) -> Result<NsatzAnswer, Overrun>
     requires few { length task.now.hyps.items < 2 ^ 31 }
     requires powers { task.now.power ≤ 16 }
     requires limited { task.now.limit ≤ 1000000 }

@@ -1,6 +1,9 @@
 //! What holds of the verdicts by nsatz. The functions do nothing: their contracts are the laws.
 
+ghost use Rattle.alg_nsatz.specs.Certificates.{CertificatesHold};
 ghost use Rattle.alg_nsatz.specs.Laws.{OneNsatzVerdict};
+
+use alg_universe::Universe;
 
 /// A goal has at most one verdict by nsatz.
 pub fn one_nsatz_verdict()
@@ -8,3 +11,10 @@ pub fn one_nsatz_verdict()
 {
     alg_groebner::laws::one_end();
 }
+
+/// Where a certificate is good and the hypotheses are zero at elements of a domain or a field, and none
+/// of the certificate's constants is zero there, the goal is zero. In characteristic 0 a certificate
+/// has no constants.
+pub fn certificates<U: Universe>()
+    ensures { CertificatesHold U.Universe }
+{}

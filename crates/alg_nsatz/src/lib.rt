@@ -8,6 +8,8 @@ mod decide;
 pub mod laws;
 mod preparing;
 mod product;
+#[cfg(test)]
+mod tests;
 
 pub use alg_lines::Cert;
 pub use alg_poly::Poly;
