@@ -1,7 +1,7 @@
 -- The statements of a loaded file stand in an order in which they can be read.
 use Rattle.std.proofs.Common.{◌≡◌, ◌<◌, ◌+◌, ℕ, zero, suc, List, [], ◌∷◌, ◌++◌, map, refl, sym, subst, ap, ◌∙◌, arith, lit<, lit≤}
 use Rattle.std.specs.Prelude.{All, Contains}
-use Rattle.std.specs.List.{flat_map, range_with_len}
+use Rattle.std.specs.List.{AllByRecursion, flat_map, range_with_len}
 use Rattle.std.proofs.lemmas.List.Elements.{All-from_recursion, All-nil, All-cons, All-map}
 use Rattle.std.proofs.lemmas.List.FromFn.{length-map-range_with_len, get_or-map-range_with_len}
 use Rattle.alg_terms.specs.declared.file.Statement.{Statement}
@@ -65,36 +65,31 @@ UsesAmong others goal =
       hyps = map (λ used. used.hyp) (uses_of goal.method);
     }) others
 
+-- where variables alone are used, these are to be among the others
+variables_used : (others : Members) (vars : List ℕ) → AllByRecursion (Contains others.vars) vars →
+    AreAmong (record none { vars = vars }) others
+variables_used others vars among = record {
+  sorts = All-nil (Contains others.sorts);
+  homs = All-nil (Contains others.homs);
+  vars = All-from_recursion (Contains others.vars) vars among;
+  hyps = All-nil (Contains others.hyps);
+}
+
 module _ (others : Members) (x : Contains others.vars 0) (y : Contains others.vars 1) where
   equal_uses : (i : ℕ) → UsesAmong others (equal_goal i)
   unfolding fold_term
       Rattle.alg_terms.specs.declared.term.Term.TheBlock.hidden-the_row-Term-0 denote.Hole.Carrier.hidden
-  equal_uses i = record {
-    sorts = All-nil (Contains others.sorts);
-    homs = All-nil (Contains others.homs);
-    vars = All-from_recursion (Contains others.vars) (0 ∷ 1 ∷ 0 ∷ 0 ∷ 1 ∷ 1 ∷ []) (x, (y, (x, (x, (y, (y, tt))))));
-    hyps = All-nil (Contains others.hyps);
-  }
+  equal_uses i = variables_used others (0 ∷ 1 ∷ 0 ∷ 0 ∷ 1 ∷ 1 ∷ []) (x, (y, (x, (x, (y, (y, tt))))))
 
   unequal_uses : (i : ℕ) → UsesAmong others (unequal_goal i)
   unfolding fold_term
       Rattle.alg_terms.specs.declared.term.Term.TheBlock.hidden-the_row-Term-0 denote.Hole.Carrier.hidden
-  unequal_uses i = record {
-    sorts = All-nil (Contains others.sorts);
-    homs = All-nil (Contains others.homs);
-    vars = All-from_recursion (Contains others.vars) (0 ∷ 1 ∷ 0 ∷ 1 ∷ []) (x, (y, (x, (y, tt))));
-    hyps = All-nil (Contains others.hyps);
-  }
+  unequal_uses i = variables_used others (0 ∷ 1 ∷ 0 ∷ 1 ∷ []) (x, (y, (x, (y, tt))))
 
   field_uses : (i : ℕ) → UsesAmong others (field_goal i)
   unfolding fold_term
       Rattle.alg_terms.specs.declared.term.Term.TheBlock.hidden-the_row-Term-0 denote.Hole.Carrier.hidden
-  field_uses i = record {
-    sorts = All-nil (Contains others.sorts);
-    homs = All-nil (Contains others.homs);
-    vars = All-from_recursion (Contains others.vars) (0 ∷ 0 ∷ 0 ∷ []) (x, (x, (x, tt)));
-    hyps = All-nil (Contains others.hyps);
-  }
+  field_uses i = variables_used others (0 ∷ 0 ∷ 0 ∷ []) (x, (x, (x, tt)))
 
   goal_uses : (i : ℕ) → UsesAmong others (goal_of i)
   goal_uses i = each_turn (UsesAmong others) i (equal_uses i) (unequal_uses i) (field_uses i)
@@ -120,14 +115,6 @@ goals_use_earlier n first (suc count) is more = (
   goals_use_earlier n (first + 1) count (omega arith) (more ++ (statement.Goal first ∷ [])),
 )
 
-nothing_used : (others : Members) → AreAmong none others
-nothing_used others = record {
-  sorts = All-nil (Contains others.sorts);
-  homs = All-nil (Contains others.homs);
-  vars = All-nil (Contains others.vars);
-  hyps = All-nil (Contains others.hyps);
-}
-
 the_field_used : (n : ℕ) → UsesEarlier n (statement.Sort 0 ∷ []) (statement.Vars 0 2)
 the_field_used n = record {
   sorts = All-from_recursion (Contains (0 ∷ [])) (0 ∷ 0 ∷ []) ((0, lit< tt, refl), ((0, lit< tt, refl), tt));
@@ -138,7 +125,7 @@ the_field_used n = record {
 
 earlier : (n : ℕ) → EachSplit (UsesEarlier n) [] (loaded n).order
 earlier n = (
-  nothing_used (declared_by_all []),
+  variables_used (declared_by_all []) [] tt,
   (the_field_used n, goals_use_earlier n 0 n (omega arith) []),
 )
 

@@ -6,7 +6,7 @@ ghost use Rattle.alg_load.specs.Loaded.{loaded};
 ghost use Rattle.alg_terms.specs.Valid.{IsValid};
 
 use crate::NoMemory;
-use crate::declared::{sorts, vars};
+use crate::declarations::{sorts, vars};
 use crate::goals::goals;
 use alg_terms::{File, Seq, Statement};
 use std::alloc::Global;

@@ -5,7 +5,7 @@
 //! the greatest n to its definition.
 #![tactic(auto)]
 
-mod declared;
+mod declarations;
 mod file;
 mod goals;
 pub mod laws;
