@@ -9,3 +9,5 @@ pub mod Turns
 pub mod ConstantsOf
 pub mod Primes
 pub mod CertificateValues
+pub mod TableValues
+pub mod Right

@@ -1,7 +1,7 @@
 //! What holds of the verdicts by nsatz. The functions do nothing: their contracts are the laws.
 
 ghost use Rattle.alg_nsatz.specs.Certificates.{CertificatesHold};
-ghost use Rattle.alg_nsatz.specs.Laws.{OneNsatzVerdict};
+ghost use Rattle.alg_nsatz.specs.Laws.{OneNsatzVerdict, ProvedIsRight};
 
 use alg_universe::Universe;
 
@@ -18,3 +18,12 @@ pub fn one_nsatz_verdict()
 pub fn certificates<U: Universe>()
     ensures { CertificatesHold U.Universe }
 {}
+
+/// A goal by nsatz of a valid file whose verdict is Proved is right in every universe: where its used
+/// hypotheses hold and none of the constants is zero, its sides are equal.
+pub fn proved_is_right<U: Universe>()
+    ensures { ProvedIsRight U.Universe }
+{
+    alg_meaning::laws::uses::<U>();
+    alg_groebner::laws::certificates_are_good();
+}
