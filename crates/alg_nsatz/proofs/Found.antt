@@ -27,7 +27,8 @@ use Rattle.alg_nsatz.specs.Tasks.{IsPrepared, IsTaskBy, IsTask, StopsTask}
 use Rattle.alg_nsatz.specs.Verdict.{NsatzVerdict, IsVerdictBy, IsVerdictOf, SearchEnds, SearchComesTo}
 
 -- ---- how long what is kept is
-pub kept_length : (p : Use → Bool) (f : Use → Polynomial) (uses : List Use) → length (map f (filter p uses)) ≤ length uses
+pub kept_length : (p : Use → Bool) (f : Use → Polynomial) (uses : List Use) →
+    length (map f (filter p uses)) ≤ length uses
 kept_length p f [] = omega arith
 kept_length p f (u ∷ uses) = at (p u) (kept_length p f uses)
   where
