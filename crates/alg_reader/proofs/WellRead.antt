@@ -151,5 +151,6 @@ end_well text at within = record {
 
 pub well_read : StatementsAreWellRead
 unfolding IsRead
-well_read site text at raw u boundary (inl (next, is)) = subst (IsWellRead text at) (sym is) (end_well text at boundary.0)
+well_read site text at raw u boundary (inl (next, is)) =
+    subst (IsWellRead text at) (sym is) (end_well text at boundary.0)
 well_read site text at raw u boundary (inr stands) = stands_well site text at raw u boundary stands
