@@ -1,8 +1,5 @@
 -- A goal whose certificate is good is right.
-use Rattle.std.specs.Prelude.{◌≡◌, ◌≢◌, ◌<◌, ◌^◌, ℕ, zero, suc, ℤ, Bool, true, false, not, cond, List, [], ◌∷◌, All, Contains, filter, map, length, slice_index_or}
-use Rattle.std.specs.Cmp.{nat_cmp_total}
-use Rattle.std.specs.FinMap.{nat_cmp-IsAntisymmetric}
-use Rattle.std.specs.Ordering.{nat_cmp}
+use Rattle.std.specs.Prelude.{◌≡◌, ◌≢◌, ◌<◌, ℕ, zero, suc, Bool, true, false, not, cond, List, [], ◌∷◌, All, Contains, filter, map, length, slice_index_or}
 use Rattle.std.proofs.Common.{sym, ap, subst, ◌∙◌, arith}
 use Rattle.std.proofs.lemmas.List.{get_or_default}
 use Rattle.std.proofs.lemmas.List.Elements.{All-nil, All-cons, All-head, All-tail, All-get_or}
@@ -20,13 +17,7 @@ use Rattle.alg_terms.specs.Valid.{IsValid}
 use Rattle.alg_universe.specs.declared.universe.Universe.{Ghosts}
 use Rattle.alg_universe.specs.Right.{Compare, ConstantHolds, Holds, UseHolds}
 use Rattle.alg_universe.specs.Value.{Fits, AreValues}
-use Rattle.alg_mono.specs.FiniteMaps.{renamed}
 use Rattle.alg_mono.specs.NumberedPolynomials.{Polynomial}
-use Rattle.alg_mono.specs.Numbers.{integers}
-use Rattle.alg_mono.specs.Polynomials.{IsPolynomial}
-use Rattle.alg_mono.proofs.Canonical.{IsCanonical-collect}
-use Rattle.alg_mono.proofs.Closure.{IsPolynomial-rename}
-use Rattle.alg_mono.proofs.Numbers.{exponent_laws, integer_laws}
 use Rattle.alg_meaning.specs.PolynomialOf.{poly_of}
 use Rattle.alg_meaning.specs.Uses.{UsesHold}
 use Rattle.alg_meaning.proofs.AtomValues.{value_at}
@@ -38,8 +29,7 @@ use Rattle.alg_meaning.proofs.Typed.{typed_left, typed_right, plain}
 use Rattle.alg_lines.specs.declared.cert.Cert.{Cert}
 use Rattle.alg_lines.specs.Accepting.{IsGood}
 use Rattle.alg_lines.specs.Constants.{constants}
-use Rattle.alg_reify.specs.Numbered.{number_of, numbered_monomial}
-use Rattle.alg_reify.specs.Preparing.{difference, equation_differences, goal_difference, is_equation, is_nonzero, nonzero_differences, prepared_goal, prepared_hyps, used_difference}
+use Rattle.alg_reify.specs.Preparing.{equation_differences, goal_difference, is_equation, is_nonzero, nonzero_differences, prepared_goal, prepared_hyps, used_difference}
 use Rattle.alg_reify.specs.Table.{equation_leaves, table, use_leaves}
 use Rattle.alg_reify.proofs.Held.{held_sides, held_uses}
 use Rattle.alg_reify.proofs.Uses.{use_leaves-at}
