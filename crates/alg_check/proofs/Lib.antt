@@ -3,3 +3,8 @@ pub mod Following
 pub mod Made
 pub mod Chains
 pub mod Once
+pub mod Primes
+pub mod ConstantsOf
+pub mod CertificateValues
+pub mod TableValues
+pub mod CertifiedGoals

@@ -1,11 +1,24 @@
 -- Laws of checking.
-use Rattle.std.specs.Prelude.{◌≡◌, List}
+use Rattle.std.specs.Prelude.{◌≡◌, ◌<◌, ℕ, List, [], length}
+use Rattle.alg_terms.specs.declared.file.File.{File}
+use Rattle.alg_terms.specs.Members.{goal_at, sort_at}
+use Rattle.alg_terms.specs.Valid.{IsValid}
+use Rattle.alg_universe.specs.declared.universe.Universe.{Ghosts}
+use Rattle.alg_universe.specs.Right.{IsRight}
 use Rattle.alg_mono.specs.NumberedPolynomials.{Polynomial}
 use Rattle.alg_lines.specs.declared.cert.Cert.{Cert}
 use Rattle.alg_lines.specs.Accepting.{Acceptance, Accepting}
+use Rattle.alg_lines.specs.Constants.{constants}
+use Rattle.alg_check.specs.Certified.{IsCertified}
 
 -- a certificate has one acceptance
 abbrev pub OneAcceptance : Type 0
 OneAcceptance =
     (hyps : List Polynomial) (g : Polynomial) (cert : Cert) (a b : Acceptance) →
     Accepting hyps g cert a → Accepting hyps g cert b → a ≡ b
+
+-- each goal of a valid file that a certificate proves is right, wherever none of the certificate's constants is zero
+abbrev pub CertifiedIsRight : {E : Type 0} → Ghosts E → Type 0
+CertifiedIsRight u =
+    (file : File) (i : ℕ) → IsValid file → i < length file.goals → (cert : Cert) → IsCertified file (goal_at file i) cert →
+    IsRight u file i [] (constants cert (sort_at file (goal_at file i).equation.sort).char0)

@@ -1,2 +1,4 @@
 pub mod Checking
 pub mod Laws
+pub mod Certificates
+pub mod Certified

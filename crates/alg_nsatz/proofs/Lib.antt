@@ -6,8 +6,4 @@ pub mod NormsSome
 pub mod OneVerdict
 pub mod Tasks
 pub mod Turns
-pub mod ConstantsOf
-pub mod Primes
-pub mod CertificateValues
-pub mod TableValues
 pub mod Right
