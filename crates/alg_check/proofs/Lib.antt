@@ -3,3 +3,8 @@ pub mod Following
 pub mod Made
 pub mod Chains
 pub mod Once
+pub mod Sizes
+pub mod Answers
+pub mod Reports
+pub mod CertReports
+pub mod SameTerms

@@ -1,2 +1,6 @@
 pub mod Checking
+pub mod Bounds
+pub mod Preparing
+pub mod Answers
+pub mod Reports
 pub mod Laws

@@ -1,11 +1,6 @@
-pub mod Bounds
-pub mod Factors
 pub mod Found
-pub mod Made
-pub mod NormsSome
 pub mod OneVerdict
 pub mod Tasks
-pub mod Turns
 pub mod ConstantsOf
 pub mod Primes
 pub mod CertificateValues
