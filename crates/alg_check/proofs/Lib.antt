@@ -8,3 +8,8 @@ pub mod ConstantsOf
 pub mod CertificateValues
 pub mod TableValues
 pub mod CertifiedGoals
+pub mod Sizes
+pub mod Answers
+pub mod Reports
+pub mod CertReports
+pub mod SameTerms

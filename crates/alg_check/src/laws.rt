@@ -1,7 +1,7 @@
 //! What good certificates say. The functions do nothing: their contracts are the laws.
 
 ghost use Rattle.alg_check.specs.Certificates.{CertificatesHold};
-ghost use Rattle.alg_check.specs.Laws.{CertifiedIsRight, OneAcceptance};
+ghost use Rattle.alg_check.specs.Laws.{CertifiedIsRight, OneAcceptance, OneReport};
 
 use alg_universe::Universe;
 
@@ -9,6 +9,11 @@ use alg_universe::Universe;
 /// rule.
 pub fn one_acceptance()
     ensures { OneAcceptance }
+{}
+
+/// A goal with an answer, or with none, has one report.
+pub fn one_report()
+    ensures { OneReport }
 {}
 
 /// Where a certificate is good and the hypotheses are zero at elements of a domain or a field, and none

@@ -4,13 +4,19 @@
 //! `specs/Accepting.antt`. [`check_cert`] tells it.
 #![tactic(auto)]
 
+mod bounds;
 mod certificate;
 mod combined;
+mod comparing;
 mod given;
+mod goal;
 pub mod laws;
+mod preparing;
+mod product;
+mod ring;
 #[cfg(test)]
 mod tests;
 
-pub use alg_lines::{Cert, GoalStep, Line};
+pub use alg_lines::{Cert, GoalStep, Line, NoMemory};
 pub use alg_poly::{Overrun, Poly};
 pub use certificate::{CertAnswer, check_cert};

@@ -24,7 +24,7 @@ use Rattle.alg_field.specs.Rules.{norms, degrees}
 use Rattle.alg_field.specs.Within.{IsWithin}
 use Rattle.alg_field.specs.Lists.{IsList}
 use Rattle.alg_field.proofs.Measures.{norm_first, degree_first, norms_some, times_more, power_some, each_some, each_factor, over_is}
-use Rattle.alg_field.proofs.NumberTests.{norm_some}
+use Rattle.alg_reify.proofs.NormsSome.{norm_some}
 
 module _ (list : FactorMap) (i : ℕ) (x d : Polynomial × ℕ) (out : Polynomial) (h : i < length list)
     (e : x ≡ get_or list i d) (w : IsWithin out (drop i list)) where

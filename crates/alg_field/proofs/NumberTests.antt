@@ -76,16 +76,3 @@ number_test p (Some c) d h some =
     (λ e. let same = (Decides-int_eq c d).0 e in
     passes order_total p (([], d) ∷ []) (h ∙ ap (λ n. term_of [] n) same ∙ is))
     (λ e. (Decides-int_eq c d).1 (number_from c d (is_zero c) (sym h ∙ only_equal order_anti p (([], d) ∷ []) e)))
-
--- what isn't 0 has a norm
-pub some_number : (c : ℤ) → T (not (is_zero c)) → 0 < unsigned_abs c
-some_number (pos zero) h = absurd h
-some_number (pos (suc n)) h = omega arith
-some_number (negsuc n) h = omega arith
-
-pub norm_some : (p : Polynomial) → IsPoly nat_cmp p → is_nothing p ≡ false → 0 < norm p
-norm_some [] h e = absurd (cc)
-norm_some (e ∷ p) h is =
-    let terms = h.polynomial.canonical.no_none in
-    let some = some_number e.1 (first (not (is_zero e.1)) (all_some before integers.amounts p) terms) in
-    omega (arith, norm-cons e p, some)

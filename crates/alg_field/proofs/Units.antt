@@ -21,7 +21,7 @@ use Rattle.alg_reify.proofs.FactorMeasures.{AreLike, both_like, same_rule}
 use Rattle.alg_field.specs.Factors.{FactorMap, order}
 use Rattle.alg_field.specs.Lists.{IsFactor}
 use Rattle.alg_field.proofs.Order.{order_anti}
-use Rattle.alg_field.proofs.NumberTests.{some_number, norm_some}
+use Rattle.alg_reify.proofs.NormsSome.{some_number, norm_some}
 
 -- of norm 1 and degree 0
 pub record IsUnit (p : Polynomial) : Type 0 where

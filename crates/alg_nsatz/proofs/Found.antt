@@ -1,5 +1,5 @@
 -- What is found for a task is the verdict on its goal.
-use Rattle.std.specs.Prelude.{◌≡◌, ◌<◌, ◌≤◌, ◌^◌, ℕ, Bool, true, false, cond, List, [], ◌∷◌, filter, map, length}
+use Rattle.std.specs.Prelude.{◌≡◌, ◌<◌, ◌≤◌, ◌^◌, ℕ, Bool, List, length}
 use Rattle.std.specs.declared.result.Result.TheVariants.{Ok, Err}
 use Rattle.std.proofs.Common.{ap, subst, ◌∙◌, arith, inl, inr}
 use Rattle.alg_terms.specs.declared.file.File.{File}
@@ -20,22 +20,12 @@ use Rattle.alg_reify.specs.declared.stop.Stop.{Stop}
 use Rattle.alg_reify.specs.Preparing.{is_equation, prepared_goal, prepared_hyps, used_difference}
 use Rattle.alg_reify.specs.Stops.{stop_of_polynomial}
 use Rattle.alg_reify.specs.Table.{table}
+use Rattle.alg_reify.proofs.UseTurns.{kept_length}
 use Rattle.alg_nsatz.specs.declared.decide.NsatzAnswer.{NsatzAnswer}
 use Rattle.alg_nsatz.specs.declared.preparing.Task.{Task}
 use Rattle.alg_nsatz.specs.Answers.{Answers, Stops, verdict_of}
 use Rattle.alg_nsatz.specs.Tasks.{IsPrepared, IsTaskBy, IsTask, StopsTask}
 use Rattle.alg_nsatz.specs.Verdict.{NsatzVerdict, IsVerdictBy, IsVerdictOf, SearchEnds, SearchComesTo}
-
--- ---- how long what is kept is
-pub kept_length : (p : Use → Bool) (f : Use → Polynomial) (uses : List Use) →
-    length (map f (filter p uses)) ≤ length uses
-kept_length p f [] = omega arith
-kept_length p f (u ∷ uses) = at (p u) (kept_length p f uses)
-  where
-    at : (b : Bool) → length (map f (filter p uses)) ≤ length uses →
-        length (map f (cond b (u ∷ filter p uses) (filter p uses))) ≤ length (u ∷ uses)
-    at true h = omega (arith, h)
-    at false h = omega (arith, h)
 
 -- the limits of a search
 pub record IsSmall (t : Task) : Type 0 where

@@ -1,9 +1,4 @@
-pub mod Bounds
-pub mod Factors
 pub mod Found
-pub mod Made
-pub mod NormsSome
 pub mod OneVerdict
 pub mod Tasks
-pub mod Turns
 pub mod Right

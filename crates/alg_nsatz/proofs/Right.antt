@@ -33,7 +33,7 @@ use Rattle.alg_check.specs.Laws.{CertifiedIsRight}
 use Rattle.alg_check.specs.Certified.{IsCertifiedBy}
 use Rattle.alg_nsatz.specs.Laws.{ProvedIsRight}
 use Rattle.alg_nsatz.specs.Verdict.{NsatzVerdict, IsVerdictBy, IsVerdictOf}
-use Rattle.alg_nsatz.proofs.Found.{kept_length}
+use Rattle.alg_reify.proofs.UseTurns.{kept_length}
 
 -- a numbered polynomial is one
 numbered_is : (atoms : List Atom) (file : File) (uses : List Use) →

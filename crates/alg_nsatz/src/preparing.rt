@@ -7,9 +7,9 @@ ghost use Rattle.alg_terms.specs.Valid.{IsValid};
 ghost use Rattle.alg_mono.specs.Outcomes.{Outcome};
 ghost use Rattle.alg_mono.specs.Refusals.{Tells};
 ghost use Rattle.alg_reify.specs.Numbered.{numbered};
-ghost use Rattle.alg_reify.specs.Preparing.{IsByNsatz, difference, difference_outcome, uses_outcome, equation_differences, nonzero_differences};
+ghost use Rattle.alg_reify.specs.Preparing.{IsByNsatz, StopsPreparing, difference, difference_outcome, uses_outcome, equation_differences, nonzero_differences};
 ghost use Rattle.alg_reify.specs.Table.{equation_leaves, use_leaves};
-ghost use Rattle.alg_nsatz.specs.Tasks.{IsPrepared, IsTask, StopsPreparing, StopsTask};
+ghost use Rattle.alg_nsatz.specs.Tasks.{IsPrepared, IsTask, StopsTask};
 ghost use Rattle.alg_nsatz.specs.Puts.{PutsUse};
 
 use crate::product::product;

@@ -32,3 +32,10 @@ pub mod Tried
 pub mod Undone
 pub mod Uses
 pub mod Verdicts
+pub mod MadeDifferences
+pub mod UseTurns
+pub mod ProductTurns
+pub mod ProductRules
+pub mod NormsSome
+pub mod PreparedStops
+pub mod RingSides

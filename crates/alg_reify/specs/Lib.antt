@@ -8,6 +8,7 @@ pub mod Making
 pub mod RingVerdict
 pub mod FieldVerdict
 pub mod Preparing
+pub mod Answers
 pub mod FieldLaws
 pub mod Stops
 pub mod Laws

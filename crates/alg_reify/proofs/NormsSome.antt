@@ -11,7 +11,7 @@ use Rattle.alg_mono.specs.Polynomials.{IsPoly, norm}
 use Rattle.alg_mono.proofs.Canonical.{first}
 use Rattle.alg_mono.proofs.Norms.{norm-cons}
 
-some_number : (c : ℤ) → T (not (is_zero c)) → 0 < unsigned_abs c
+pub some_number : (c : ℤ) → T (not (is_zero c)) → 0 < unsigned_abs c
 some_number (pos zero) h = absurd h
 some_number (pos (suc n)) h = omega arith
 some_number (negsuc n) h = omega arith

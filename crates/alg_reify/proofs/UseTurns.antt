@@ -1,6 +1,6 @@
 -- The turns of the loop over the uses of a goal.
-use Rattle.std.specs.Prelude.{◌≡◌, ℕ, ◌+◌, ◌<◌, Bool, true, false, not, cond, List, [], ◌∷◌, ◌++◌, filter, map, All, Contains, length, drop}
-use Rattle.std.proofs.Common.{get_or, refl, sym, ap, subst, ◌∙◌}
+use Rattle.std.specs.Prelude.{◌≡◌, ℕ, ◌+◌, ◌<◌, ◌≤◌, Bool, true, false, not, cond, List, [], ◌∷◌, ◌++◌, filter, map, All, Contains, length, drop}
+use Rattle.std.proofs.Common.{get_or, refl, sym, ap, subst, ◌∙◌, arith}
 use Rattle.std.proofs.lemmas.List.{append_assoc}
 use Rattle.alg_terms.specs.declared.term.Atom.{Atom}
 use Rattle.alg_terms.specs.declared.file.File.{File}
@@ -96,3 +96,14 @@ module _ (file : File) (atoms : List Atom) (uses : List Use) (i : ℕ) (x d : Us
   outcome_told all end told is =
       subst (Tells end) (sym outcome_from ∙ is)
       (first_told end (difference_outcome x.path (used_equation file x)) (uses_outcome file rest) told)
+
+-- what is kept of the uses is no longer
+pub kept_length : (p : Use → Bool) (f : Use → Polynomial) (uses : List Use) →
+    length (map f (filter p uses)) ≤ length uses
+kept_length p f [] = omega arith
+kept_length p f (u ∷ uses) = at (p u) (kept_length p f uses)
+  where
+    at : (b : Bool) → length (map f (filter p uses)) ≤ length uses →
+        length (map f (cond b (u ∷ filter p uses) (filter p uses))) ≤ length (u ∷ uses)
+    at true h = omega (arith, h)
+    at false h = omega (arith, h)

@@ -10,7 +10,7 @@ use Rattle.alg_mono.specs.Polynomials.{norm, poly_degree}
 use Rattle.alg_mono.proofs.Outcomes.{said}
 use Rattle.alg_reify.specs.Preparing.{times_each}
 use Rattle.alg_reify.proofs.FactorProducts.{product_sum}
-use Rattle.alg_nsatz.proofs.Factors.{degrees}
+use Rattle.alg_reify.proofs.ProductTurns.{degrees}
 
 -- a product with a factor 0 is 0, and breaks no rule
 nothing_each : (qs : List Polynomial) → [] ≡ times_each [] qs
