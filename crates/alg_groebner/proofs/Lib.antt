@@ -34,3 +34,8 @@ pub mod Simulation
 pub mod Running
 pub mod Answered
 pub mod Begun
+pub mod Bounded
+pub mod Coefficients
+pub mod Limited
+pub mod Over
+pub mod Walked

@@ -20,10 +20,10 @@ pub prepared : (file : File) (e : Equation) (uses : List Use) → length (table 
     atoms ≡ table file e uses → (first : Polynomial) (rest : List Polynomial) →
     first ≡ numbered atoms (difference [] e) → rest ≡ nonzero_differences file atoms uses → (t : Task) →
     product_outcome (first ∷ rest) ≡ Outcome.Fine → t.atoms ≡ length atoms →
-    t.hyps.items ≡ equation_differences file atoms uses → t.goal ≡ times_each first rest → IsPrepared file e uses t
+    t.hyps ≡ equation_differences file atoms uses → t.goal ≡ times_each first rest → IsPrepared file e uses t
 prepared file e uses small fine uses_fine atoms is first rest made others t product_fine count hyps goal = record {
   fine = prepared_fine file e uses small fine uses_fine atoms is first rest made others product_fine;
   atoms = count ∙ ap (λ (t : List Atom). length t) is;
-  hyps = prepared_hyps_are file e uses small fine uses_fine atoms is first rest made others t.hyps.items hyps;
+  hyps = prepared_hyps_are file e uses small fine uses_fine atoms is first rest made others t.hyps hyps;
   goal = prepared_goal_is file e uses small fine uses_fine atoms is first rest made others t.goal goal;
 }

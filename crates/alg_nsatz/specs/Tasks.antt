@@ -17,7 +17,7 @@ module _ (file : File) (e : Equation) (uses : List Use) where
   pub record IsPrepared (t : Task) : Type 0 where
     pub fine : PreparesTo file e uses Outcome.Fine
     pub atoms : t.atoms ≡ length (table file e uses)
-    pub hyps : t.hyps.items ≡ prepared_hyps file e uses
+    pub hyps : t.hyps ≡ prepared_hyps file e uses
     pub goal : t.goal ≡ prepared_goal file e uses
 
 -- the task of an equation by a method: its polynomials, with the method's power and limit

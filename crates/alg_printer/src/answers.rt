@@ -3,13 +3,13 @@
 ghost use Rattle.std.specs.Prelude.{◌≡◌, ◌<◌, ◌++◌, [], length, All, codes, decimal, unwrap_or, OnOk};
 ghost use Rattle.std.specs.List.{flat_map};
 ghost use Rattle.alg_terms.specs.Members.{uses_of};
-ghost use Rattle.alg_printer.specs.Answers.{conditions_text, constants_text, multiple_text, divisor_text, line_text, step_text, power_text, cert_text, no_text, answer_text};
+ghost use Rattle.alg_printer.specs.Answers.{conditions_text, constants_text, scale_text, multiple_text, over_text, divisor_text, line_text, step_text, power_text, cert_text, no_text, answer_text};
 ghost use Rattle.alg_printer.specs.Monomials.{goal_atoms, IsAtomOf, IsOverAtoms};
 ghost use Rattle.alg_printer.specs.Printable.{IsLineOver, IsStepOver, IsCertOver, HasParts};
 ghost use Rattle.alg_printer.specs.Terms.{IsNamed};
 
 use crate::NoMemory;
-use crate::monomials::{goal_table, put_monomial};
+use crate::monomials::{goal_table, put_factors, put_monomial};
 use crate::terms::put_term;
 use crate::text::Text;
 use alg_lines::{Answer, Cert, GoalStep, Line};
@@ -47,6 +47,25 @@ fn put_constants(text: &mut Text, constants: &[i128]) -> Result<(), NoMemory>
     Ok(())
 }
 
+/// A monomial of a combination with the comma behind it, if it is not 1.
+fn put_scale(
+    text: &mut Text,
+    file: &File,
+    atoms: &Option<Atoms>,
+    mono: &Mono,
+) -> Result<(), NoMemory>
+    requires known { All (IsAtomOf file.now) (unwrap_or atoms.now []) }
+    requires over { IsOverAtoms (unwrap_or atoms.now []) mono.now }
+    ensures { OnOk result (text.new
+        ≡ text.old ++ scale_text file.now (unwrap_or atoms.now []) mono.now) }
+{
+    if mono.pairs().is_empty() {
+        return Ok(());
+    }
+    put_factors(text, file, atoms, mono.pairs())?;
+    text.put(b", ")
+}
+
 /// A multiple of a line.
 fn put_multiple(
     text: &mut Text,
@@ -63,17 +82,26 @@ fn put_multiple(
 {
     text.integer(factor)?;
     text.put(b", ")?;
-    put_monomial(text, file, atoms, mono)?;
-    text.put(b", ")?;
+    put_scale(text, file, atoms, mono)?;
     text.natural(line)
+}
+
+/// The divisor of a combination, if it is not 1.
+fn put_over(text: &mut Text, divisor: i128) -> Result<(), NoMemory>
+    ensures { OnOk result (text.new ≡ text.old ++ over_text divisor) }
+{
+    if divisor == 1 {
+        return Ok(());
+    }
+    text.put(b" over ")?;
+    text.integer(divisor)
 }
 
 /// The divisor of a combination, at the end of its line.
 fn put_divisor(text: &mut Text, divisor: i128) -> Result<(), NoMemory>
     ensures { OnOk result (text.new ≡ text.old ++ divisor_text divisor) }
 {
-    text.put(b" over ")?;
-    text.integer(divisor)?;
+    put_over(text, divisor)?;
     text.put(b".\n")
 }
 
@@ -155,7 +183,7 @@ fn put_steps(
 fn put_power(text: &mut Text, power: u32, constants: &[i128]) -> Result<(), NoMemory>
     ensures { OnOk result (text.new ≡ text.old ++ power_text power constants.now) }
 {
-    text.put(b"  proved power ")?;
+    text.put(b"  proved version 2 power ")?;
     text.natural(power)?;
     put_constants(text, constants)?;
     text.put(b".\n")
