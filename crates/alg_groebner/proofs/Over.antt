@@ -7,9 +7,9 @@ use Rattle.alg_mono.specs.FiniteMaps.{Each, products}
 use Rattle.alg_mono.specs.Mono.{Monomial}
 use Rattle.alg_mono.specs.Monomials.{lowered, mono_over, mono_times, lcm}
 use Rattle.alg_mono.specs.Numbers.{exponents, integers}
-use Rattle.alg_mono.specs.NumberedPolynomials.{Polynomial, before, term_of, multiple_of, power_of}
+use Rattle.alg_mono.specs.NumberedPolynomials.{Polynomial, before, term_of, multiple_of, power_of, product_of}
 use Rattle.alg_mono.specs.Polynomials.{poly_neg}
-use Rattle.alg_mono.proofs.Closure.{IsPolynomial-power}
+use Rattle.alg_mono.proofs.Closure.{IsPolynomial-power, IsPolynomial-times}
 use Rattle.alg_mono.proofs.Each.{Each-append, Each-collect, Each-keep, Each-neg, Each-products}
 use Rattle.alg_mono.proofs.Lcm.{Each-lowered}
 use Rattle.alg_mono.proofs.Numbers.{integer_laws}
@@ -45,11 +45,14 @@ module _ (P : Monomial → Type 0) (times : (m n : Monomial) → P m → P n →
   each_cancelled m p n q hm hn hp hq =
       each_number (pos (content (crossed m p n q))) (crossed m p n q) (each_crossed m p n q hm hn hp hq)
 
-  pub each_power : (p : Polynomial) (k : ℕ) → P [] → Each P p → Each P (power_of p k)
+  pub each_product : (p q : Polynomial) → Each P p → Each P q → Each P (product_of p q)
+  each_product p q h g =
+      Each-collect before integers.amounts P (products (mono_times nat_cmp) ◌*ℤ◌ p q)
+      (Each-products (mono_times nat_cmp) ◌*ℤ◌ P P P times p q h g)
+
+  each_power : (p : Polynomial) (k : ℕ) → P [] → Each P p → Each P (power_of p k)
   each_power p zero one h = Each-keep before integers.amounts P [] (pos 1) [] one tt
-  each_power p (suc k) one h =
-      Each-collect before integers.amounts P (products (mono_times nat_cmp) ◌*ℤ◌ p (power_of p k))
-      (Each-products (mono_times nat_cmp) ◌*ℤ◌ P P P times p (power_of p k) h (each_power p k one h))
+  each_power p (suc k) one h = each_product p (power_of p k) h (each_power p k one h)
 
 module _ (n : ℕ) where
   abbrev Low : ℕ → Type 0
@@ -73,6 +76,13 @@ module _ (n : ℕ) where
   over_cancelled m p q r hm hq hp hr = record {
     polynomial = IsPolynomial-cancelled m p q r;
     atoms = each_cancelled (HasAtoms n) atoms_times m p q r hm hq hp.atoms hr.atoms;
+  }
+
+  pub over_product : (p q : Polynomial) → IsOver n p → IsOver n q → IsOver n (product_of p q)
+  over_product p q h g = record {
+    polynomial =
+        IsPolynomial-times integer_laws nat_cmp_total nat_cmp-IsAntisymmetric p q h.polynomial g.polynomial;
+    atoms = each_product (HasAtoms n) atoms_times p q h.atoms g.atoms;
   }
 
   pub over_power : (p : Polynomial) (k : ℕ) → IsOver n p → IsOver n (power_of p k)

@@ -1,4 +1,5 @@
 pub mod Found
 pub mod OneVerdict
+pub mod Within
 pub mod Tasks
 pub mod Right

@@ -1,7 +1,7 @@
 //! Products of polynomials, and tasks made by hand with what is found for them.
 
 use crate::decide::answer;
-use crate::laws::{certificates, one_nsatz_verdict, proved_is_right};
+use crate::laws::{certificates, one_nsatz_verdict, proved_is_right, proved_is_within};
 use crate::preparing::Task;
 use crate::product::product;
 use crate::{NsatzAnswer, Poly};
@@ -154,6 +154,7 @@ fn a_certificate_has_the_constants_that_it_divides_by(rt: HostRuntime) -> Result
 #[test]
 fn the_laws_are_called() {
     one_nsatz_verdict();
+    proved_is_within();
     certificates::<Ints>();
     proved_is_right::<Ints>();
 }
