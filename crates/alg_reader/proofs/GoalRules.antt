@@ -1,20 +1,19 @@
 -- What the rules of methods, goals and statements make of what their parts mean.
-use Rattle.std.proofs.Common.{◌≡◌, ℕ, inl, inr, List, ◌++◌, length, refl, ap, sym, ◌∙◌, subst, arith, length-append}
+use Rattle.std.proofs.Common.{ℕ, inl, inr, List, ◌++◌, length, refl, ap, sym, ◌∙◌, subst, arith, length-append}
 use Rattle.alg_tokens.specs.declared.token.Token.{Token}
 use Rattle.alg_tokens.specs.declared.token.TokenKind.{TokenKind}
 use Rattle.alg_tokens.specs.declared.token.TokenKind.TheVariants as kinds
 use Rattle.alg_tokens.specs.declared.token.Word.TheVariants as words
-use Rattle.alg_reader.specs.declared.raw.RawKind.{RawKind}
 use Rattle.alg_reader.specs.declared.raw.RawKind.TheVariants as raws
 use Rattle.alg_reader.specs.Forms as rules
 use Rattle.alg_reader.specs.Forms.{Rule, Form, a, seq, alt, opt, many, rule, Tree, token, pair, left, right, none, some, end, more, node, spelled}
-use Rattle.alg_reader.specs.Grammar.{grammar, name, sign, body}
+use Rattle.alg_reader.specs.Grammar.{grammar, sign}
 use Rattle.alg_reader.specs.TermMeaning.{Value}
 use Rattle.alg_reader.specs.TermMeaning.{one, two, term}
 use Rattle.alg_reader.specs.Meaning.{value, act}
 use Rattle.alg_reader.specs.PartMeaning.{sides, method_word, nsatz_of}
 use Rattle.alg_reader.specs.WellRead.{IsWellMethod}
-use Rattle.alg_reader.proofs.Found.{IsSpelledKind, KindFound, RuleFound, Found}
+use Rattle.alg_reader.proofs.Found.{KindFound, RuleFound, Found}
 use Rattle.alg_reader.proofs.Rules.{equal_words, no_uses}
 use Rattle.alg_reader.proofs.UseRules.{options_found}
 
@@ -114,32 +113,7 @@ goal_found text x ts (
     (e4 ∙ ap (λ v. two v z4) eb ∙ ap (two (one b)) em)))))) (
       raws.Goal (sides t q u) m place,
       refl,
+      tt,
       (ft, fu, equal_words q.kind kq, well),
       omega arith,
     )
-
--- a dot behind what a kind of statement spells
-spelled_more : (k : RawKind) (us vs ts : List Token) → ts ≡ us ++ vs → IsSpelledKind k us → IsSpelledKind k ts
-spelled_more raws.End us vs ts e h = tt
-spelled_more (raws.Sort kind name char0) us vs ts e h = tt
-spelled_more (raws.Hom name from to) us vs ts e h = tt
-spelled_more (raws.Vars names sort) us vs ts e h = let long = ap length e ∙ length-append us vs in omega arith
-spelled_more (raws.Hyp name sides) us vs ts e h = tt
-spelled_more (raws.Goal sides way place) us vs ts e h =
-    let long = ap length e ∙ length-append us vs in omega arith
-
-body_found : (text : List ℕ) (x : Value) (ts : List Token) → Found text body x ts → KindFound text x ts
-body_found text x ts (inl h) = h
-body_found text x ts (inr (inl h)) = h
-body_found text x ts (inr (inr (inl h))) = h
-body_found text x ts (inr (inr (inr (inl h)))) = h
-body_found text x ts (inr (inr (inr (inr (inl h))))) = h
-body_found text x ts (inr (inr (inr (inr (inr h))))) = h
-
-pub statement_found : (text : List ℕ) (x : Value) (ts : List Token) → Found text (grammar rules.Statement) x ts
-    → KindFound text (act rules.Statement x) ts
-unfolding grammar act
-statement_found text x ts (y, z, us, vs, e, s, h, (d, ed, _, _, _)) =
-    let (k, ek, found, spells) = body_found text y us h in
-    let P : Value → Type 0 = λ v. KindFound text (act rules.Statement v) ts in
-    subst P (sym (e ∙ ap (two y) ed)) (k, ek, found, spelled_more k us vs ts s spells)
