@@ -3,7 +3,6 @@ use Rattle.std.proofs.Common.{◌≡◌, ◌⊎◌, inl, inr, ℕ, List, Option,
 use Rattle.std.specs.Prelude.{IfSome, Ok, Err}
 use Rattle.alg_outside.specs.Bytes.{Appends, ConsumesAll}
 use Rattle.alg_universe.specs.declared.universe.Universe.{Ghosts}
-use Rattle.alg_reader.specs.Tokens.{unread_today}
 use Rattle.alg_typing.specs.Laws.{OneReading}
 use Rattle.alg_printer.specs.Text.{text_of}
 use Rattle.alg_prover.specs.Answers.{AreAnswers}
@@ -49,7 +48,7 @@ refused_once : OneReading → (bytes text other : List ℕ) (status planned : St
     IsRefused bytes other planned → IsSame text other status planned
 refused_once law bytes text other status planned one two =
     let same : Err one.fault ≡ Err two.fault =
-    law unread_today bytes (Err one.fault) (Err two.fault) one.reads two.reads in
+    law bytes (Err one.fault) (Err two.fault) one.reads two.reads in
     let fault : one.fault ≡ two.fault = cc in
     record {
       same_text = one.writes ∙ ap refusal_text fault ∙ sym two.writes;
@@ -60,7 +59,7 @@ module _ {E : Type 0} (u : Ghosts E) where
   answered_once : OneReading → OneAnswer → (bytes text other : List ℕ) (status planned : Status) →
       IsAnswered u bytes text status → IsAnswered u bytes other planned → IsSame text other status planned
   answered_once law determined bytes text other status planned one two =
-      let same : Ok one.file ≡ Ok two.file = law unread_today bytes (Ok one.file) (Ok two.file) one.reads two.reads in
+      let same : Ok one.file ≡ Ok two.file = law bytes (Ok one.file) (Ok two.file) one.reads two.reads in
       let file : one.file ≡ two.file = cc in
       let theirs : AreAnswers two.file one.reply.answers =
       subst (λ f. AreAnswers f one.reply.answers) file one.reply.are_answers in
@@ -75,7 +74,7 @@ module _ {E : Type 0} (u : Ghosts E) where
   never_both : OneReading → (bytes text other : List ℕ) (status planned : Status) → IsRefused bytes text status →
       IsAnswered u bytes other planned → ⊥
   never_both law bytes text other status planned one two =
-      let same = law unread_today bytes (Err one.fault) (Ok two.file) one.reads two.reads in cc
+      let same = law bytes (Err one.fault) (Ok two.file) one.reads two.reads in cc
 
   -- bytes within the limit have one reply
   within_once : OneReading → OneAnswer → (command : Command) (bytes text other : List ℕ) (status planned : Status) →

@@ -1,9 +1,7 @@
 -- What the tokens of a text mean: names of the text, and numbers in range.
-use Rattle.std.proofs.Common.{◌≡◌, ◌≤◌, ℕ, zero, suc, ◌⊎◌, true, false, List, [], ◌∷◌, ◌++◌, length, arith, ℤ, pos, ◌≤ℤ◌}
+use Rattle.std.proofs.Common.{◌≡◌, ◌≤◌, ◌+◌, ℕ, zero, suc, ◌⊎◌, true, false, List, [], ◌∷◌, ◌++◌, length, arith, ℤ, pos, ◌≤ℤ◌}
 use Rattle.std.specs.List.{All, AllByRecursion}
 use Rattle.alg_tokens.specs.declared.token.Token.{Token}
-use Rattle.alg_tokens.specs.declared.token.TokenKind.TheVariants as kinds
-use Rattle.alg_tokens.specs.declared.token.Word.TheVariants as words
 use Rattle.alg_terms.specs.Limits.{MAX_LITERAL}
 use Rattle.alg_terms.specs.Kinds.{IsDomain}
 use Rattle.alg_reader.specs.declared.raw.RawTerm.{RawTerm}
@@ -18,7 +16,7 @@ use Rattle.alg_reader.specs.TermMeaning.{Value}
 use Rattle.alg_reader.specs.TermMeaning.{one, two, nothing, term, used, method}
 use Rattle.alg_reader.specs.Meaning.{kind_value}
 use Rattle.alg_reader.specs.RawTerms.{names_in, literals_in, exponents_in}
-use Rattle.alg_reader.specs.WellRead.{IsNameAt, IsNumeral, IsWellUse, IsWellMethod, word_of, uses_in}
+use Rattle.alg_reader.specs.WellRead.{IsNameAt, IsNumeral, IsWellUse, IsWellMethod, uses_in}
 use Rattle.alg_reader.proofs.Boundaries.{IsTokenAt}
 
 pub all_append : {X : Type 0} (P : X → Type 0) (xs ys : List X) → AllByRecursion P xs → AllByRecursion P ys
@@ -59,10 +57,6 @@ pub record IsFoundTerm (text : List ℕ) (t : RawTerm) : Type 0 where
   pub literals : AllByRecursion IsInRange (literals_in t)
   pub exponents : AllByRecursion IsNumeral (exponents_in t)
 
--- the token is the method's word
-abbrev pub HasWord : Token → RawMethod → Type 0
-HasWord w m = w.kind ≡ kinds.Word (word_of m)
-
 abbrev pub IsFoundKind : List ℕ → RawKind → Type 0
 IsFoundKind text raws.End = ⊥
 IsFoundKind text (raws.Sort kind name char0) = IsNameAt text name × (char0 ≡ true → IsDomain kind)
@@ -73,11 +67,10 @@ IsFoundKind text (raws.Hyp name e) = IsNameAt text name × IsFoundTerm text e.le
 IsFoundKind text (raws.Goal e way place) = IsFoundTerm text e.left × IsFoundTerm text e.right × (e.nonzero ≡ false)
     × IsWellMethod text way
 
--- each name is a token, the method's word stands behind `by`, and each use is a token behind it
+-- each name is a token, and each use is one beside the method's word
 abbrev pub IsSpelledKind : RawKind → List Token → Type 0
 IsSpelledKind (raws.Vars names sort) ts = length names ≤ length ts
-IsSpelledKind (raws.Goal e way place) ts = (front : List Token) × (b : Token) × (w : Token) × (back : List Token)
-    × (ts ≡ front ++ b ∷ w ∷ back) × (b.kind ≡ kinds.Word words.By) × HasWord w way × (uses_in way ≤ length back)
+IsSpelledKind (raws.Goal e way place) ts = 1 + uses_in way ≤ length ts
 IsSpelledKind _ ts = Unit {0}
 
 -- what tokens mean by a rule
@@ -94,8 +87,8 @@ RuleFound text rules.Unary x ts = TermFound text x
 RuleFound text rules.Power x ts = TermFound text x
 RuleFound text rules.Leaf x ts = TermFound text x
 RuleFound text rules.Use x ts = (u : RawUse) × (x ≡ used u) × IsWellUse text u × (1 ≤ length ts)
-RuleFound text rules.Method x ts = (m : RawMethod) × (place : ℕ) × (w : Token) × (back : List Token)
-    × (x ≡ method m place) × (ts ≡ w ∷ back) × IsWellMethod text m × HasWord w m × (uses_in m ≤ length back)
+RuleFound text rules.Method x ts = (m : RawMethod) × (place : ℕ) × (x ≡ method m place) × IsWellMethod text m
+    × (1 + uses_in m ≤ length ts)
 RuleFound text _ x ts = KindFound text x ts
 
 -- what tokens mean by a form

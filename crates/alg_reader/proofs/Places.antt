@@ -1,5 +1,5 @@
 -- Places in the tokens of a statement: the end, a token at which reading is stuck, and the dot.
-use Rattle.std.proofs.Common.{◌≡◌, ◌≢◌, ℕ, Bool, true, false, ◌&&◌, ◌==◌, not, List, [], ◌∷◌, ◌++◌, length, length-append, drop, refl, ap, sym, ◌∙◌, arith, Option, Some, Ok, eq-eqb}
+use Rattle.std.proofs.Common.{◌≡◌, ◌≢◌, ℕ, Bool, true, false, ◌&&◌, ◌==◌, not, List, [], ◌∷◌, ◌++◌, length, length-append, drop, refl, ap, sym, ◌∙◌, arith, Ok, eq-eqb}
 use Rattle.alg_tokens.specs.declared.token.Token.{Token}
 use Rattle.alg_tokens.specs.declared.token.TokenKind.{TokenKind}
 use Rattle.alg_tokens.specs.declared.token.TokenKind.TheVariants as kinds
@@ -9,7 +9,7 @@ use Rattle.alg_reader.specs.Kinds.{variant, code}
 use Rattle.alg_reader.specs.Forms as rules
 use Rattle.alg_reader.specs.Forms.{Rule, Statement, Form, a, seq, alt, opt, many, rule, Tree, token, pair, left, right, none, some, end, more, node, spelled}
 use Rattle.alg_reader.specs.Grammar.{grammar, Fits, body}
-use Rattle.alg_reader.specs.Tokens.{Unread, TokensTo, open_with, GoesPast, HasNoDot}
+use Rattle.alg_reader.specs.Tokens.{TokensTo, open_with, GoesPast, HasNoDot}
 use Rattle.alg_reader.proofs.Variants.{is_dot}
 
 -- ---- places in lists of tokens
@@ -51,13 +51,9 @@ tokens_split text at stop [] after t (next, lexeme, _) = (at, refl, next, lexeme
 tokens_split text at stop (s ∷ seen) after t (next, lexeme, to) =
     let (mid, front, here, is) = tokens_split text s.stop stop seen after t to in (mid, (next, lexeme, front), here, is)
 
-pub past_split : (unread : Unread) (depth : ℕ) (last : Option TokenKind) (seen after : List Token)
-    → GoesPast unread depth last (seen ++ after) → GoesPast unread depth last seen
-past_split unread depth last [] after past = tt
-past_split unread depth last (s ∷ seen) after (free, past) = (
-  free,
-  past_split unread (open_with depth s.kind) (Some s.kind) seen after past,
-)
+pub past_split : (depth : ℕ) (seen after : List Token) → GoesPast depth (seen ++ after) → GoesPast depth seen
+past_split depth [] after past = tt
+past_split depth (s ∷ seen) after (free, past) = (free, past_split (open_with depth s.kind) seen after past)
 
 pub dot_split : (seen after : List Token) → HasNoDot (seen ++ after) → HasNoDot seen
 dot_split [] after clear = tt

@@ -1,5 +1,5 @@
 -- What the rules of uses and of the options of nsatz make of what their parts mean.
-use Rattle.std.proofs.Common.{◌≡◌, ℕ, inl, inr, List, [], ◌∷◌, ◌++◌, ◌≤◌, length, length-append, refl, ap, sym, ◌∙◌, subst, arith}
+use Rattle.std.proofs.Common.{◌≡◌, ℕ, inl, inr, List, [], ◌∷◌, ◌++◌, ◌≤◌, length, length-append, ap, sym, ◌∙◌, subst, arith}
 use Rattle.std.specs.List.{AllByRecursion}
 use Rattle.alg_tokens.specs.declared.token.Token.{Token}
 use Rattle.alg_tokens.specs.declared.token.Sign.TheVariants as signs
@@ -14,7 +14,7 @@ use Rattle.alg_reader.specs.TermMeaning.{Value}
 use Rattle.alg_reader.specs.RawNodes.{span_of}
 use Rattle.alg_reader.specs.PartMeaning.{act_use, under, uses_after, uses_of, option_of, nsatz_of}
 use Rattle.alg_reader.specs.TermMeaning.{one, two, used}
-use Rattle.alg_reader.specs.WellRead.{IsNameAt, IsOption, IsWellUse, IsWellMethod, word_of, uses_in}
+use Rattle.alg_reader.specs.WellRead.{IsNameAt, IsOption, IsWellUse, IsWellMethod, uses_in}
 use Rattle.alg_reader.proofs.Nodes.{name_at, number_at}
 use Rattle.alg_reader.proofs.Found.{all_of, all_cons, row, EachOf, Found}
 
@@ -111,7 +111,7 @@ option_found text w x ts (inr (y, z, us, vs, e, _, (o, eo, _, _, _), h)) =
 
 -- nsatz with its options, which are well read and have few uses
 abbrev pub OptionsFound : List ℕ → RawMethod → List Token → Type 0
-OptionsFound text m ts = IsWellMethod text m × (word_of m ≡ words.Nsatz) × (uses_in m ≤ length ts)
+OptionsFound text m ts = IsWellMethod text m × (uses_in m ≤ length ts)
 
 pub options_found : (text : List ℕ) (x : Value) (ts : List Token) → Found text options x ts
     → OptionsFound text (nsatz_of x) ts
@@ -126,6 +126,5 @@ options_found text x ts (y, z, us, vs, e, s, h, (v, w, us', vs', e', _, k, l)) =
         option_found text words.Power v us' k,
         option_found text words.Limit w vs' l,
       ),
-      refl,
       few,
     )

@@ -1,17 +1,11 @@
 -- What was read is well read.
-use Rattle.std.proofs.Common.{◌≡◌, ◌≤◌, ◌+◌, ℕ, nat_lt, inl, inr, Bool, true, false, cond, List, [], ◌∷◌, ◌++◌, length, length-append, refl, ap, sym, ◌∙◌, subst, arith, Option, Some, None, is_none, pos, ◌≤ℤ◌}
+use Rattle.std.proofs.Common.{◌≡◌, ◌≤◌, ℕ, nat_lt, inl, inr, true, false, cond, List, [], ◌∷◌, length, refl, ap, sym, ◌∙◌, subst, arith, None, pos, ◌≤ℤ◌}
 use Rattle.std.specs.List.{AllByRecursion}
 use Rattle.std.specs.Str.{IsUtf8, IsCharBoundary}
 use Rattle.std.proofs.lemmas.Bool.Decides.{nat_tests}
 use Rattle.std.proofs.lemmas.Int.{ints}
 use Rattle.std.proofs.lemmas.Str.{IsUtf8-drop, IsCharBoundary-end}
-use Rattle.alg_tokens.specs.declared.code.Code.{Code}
-use Rattle.alg_tokens.specs.declared.code.Code.TheVariants as code
 use Rattle.alg_tokens.specs.declared.token.Token.{Token}
-use Rattle.alg_tokens.specs.declared.token.TokenKind.{TokenKind}
-use Rattle.alg_tokens.specs.declared.token.TokenKind.TheVariants as kinds
-use Rattle.alg_tokens.specs.declared.token.Word.{Word}
-use Rattle.alg_tokens.specs.declared.token.Word.TheVariants as words
 use Rattle.alg_terms.specs.Limits.{MAX_LITERAL, MAX_DEPTH}
 use Rattle.alg_reader.specs.declared.raw.RawNode.TheVariants.{Int}
 use Rattle.alg_reader.specs.declared.raw.RawTerm.{RawTerm}
@@ -26,9 +20,8 @@ use Rattle.alg_reader.specs.TermMeaning.{sort, hom, vars, hyp, goal}
 use Rattle.alg_reader.specs.Meaning.{kind_value}
 use Rattle.alg_reader.specs.RawTerms.{fold_under, depth_of, names_in, literals_in, exponents_in}
 use Rattle.alg_reader.specs.TooDeep.{kept, kept_kind}
-use Rattle.alg_reader.specs.Tokens.{Unread, open_with, stop_code, GoesPast}
 use Rattle.alg_reader.specs.Statements.{StandsAt, IsRead}
-use Rattle.alg_reader.specs.WellRead.{IsWellTerm, IsWellKind, IsWellRead, IsReadable, members_in, word_of, uses_in}
+use Rattle.alg_reader.specs.WellRead.{IsWellTerm, IsWellKind, IsWellRead, members_in}
 use Rattle.alg_reader.specs.Laws.{StatementsAreWellRead}
 use Rattle.alg_reader.proofs.Boundaries.{IsTokenAt, tokens_at, tokens_long}
 use Rattle.alg_reader.proofs.Found.{all_of, IsFoundTerm, IsFoundKind, IsSpelledKind}
@@ -105,37 +98,6 @@ kind_again (raws.Goal e way place) = refl
 pub one_kind : (kind other : RawKind) → kind_value kind ≡ kind_value other → kind ≡ other
 one_kind kind other e = sym (kind_again kind) ∙ ap kind_of e ∙ kind_again other
 
--- ---- the method
-
-past_at : (unread : Unread) (depth : ℕ) (last : Option TokenKind) (front : List Token) (b w : Token) (back : List Token)
-    → GoesPast unread depth last (front ++ b ∷ w ∷ back) → (d : ℕ) × (stop_code unread d (Some b.kind) w.kind ≡ None)
-past_at unread depth last [] b w back past = (open_with depth b.kind, past.1.0)
-past_at unread depth last (t ∷ front) b w back past =
-    past_at unread (open_with depth t.kind) (Some t.kind) front b w back past.1
-
-no_later : (found : Bool) → cond {A = Option Code} found (Some code.Later) None ≡ None → found ≡ false
-no_later false free = refl
-no_later true free = absurd (let clash = ap (λ r. is_none r) free in cc)
-
--- a word that reading goes past can be read
-can_be_read : (unread : Unread) (d : ℕ) (b w : TokenKind) (word : Word) → b ≡ kinds.Word words.By → w ≡ kinds.Word word
-    → stop_code unread d (Some b) w ≡ None → unread (Some (kinds.Word words.By)) word ≡ false
-can_be_read unread d b w word by is free =
-    let P : TokenKind → Type 0 = λ k. stop_code unread d (Some k) w ≡ None in
-    let Q : TokenKind → Type 0 = λ k. stop_code unread d (Some (kinds.Word words.By)) k ≡ None in
-    no_later _ (subst Q is (subst P by free))
-
-kept_readable : (unread : Unread) (kind : RawKind) (ts : List Token) → GoesPast unread 0 None ts → IsSpelledKind kind ts
-    → IsReadable unread (kept_kind kind)
-kept_readable unread raws.End ts past h = tt
-kept_readable unread (raws.Sort kind name char0) ts past h = tt
-kept_readable unread (raws.Hom name from to) ts past h = tt
-kept_readable unread (raws.Vars names of) ts past h = tt
-kept_readable unread (raws.Hyp name e) ts past h = tt
-kept_readable unread (raws.Goal e way place) ts past (front, b, w, back, same, by, named, _) =
-    let (d, free) = past_at unread 0 None front b w back (subst (GoesPast unread 0 None) same past) in
-    can_be_read unread d b.kind w.kind (word_of way) by named free
-
 -- ---- how long a statement is
 
 few_members : (kind : RawKind) (ts : List Token) → 1 ≤ length ts → IsSpelledKind kind ts
@@ -145,16 +107,13 @@ few_members (raws.Sort kind name char0) ts some h = some
 few_members (raws.Hom name from to) ts some h = some
 few_members (raws.Vars names of) ts some h = h
 few_members (raws.Hyp name e) ts some h = some
-few_members (raws.Goal e way place) ts some (front, b, w, back, same, _, _, few) =
-    let long = ap length same ∙ length-append front (b ∷ w ∷ back) in
-    let all : 1 + uses_in way ≤ length ts = omega arith in
-    all
+few_members (raws.Goal e way place) ts some h = h
 
 -- ---- all of it
 
-stands_well : (unread : Unread) (site : Place) (text : List ℕ) (at : ℕ) (raw : Raw) → IsUtf8 text
-    → IsCharBoundary text at → StandsAt unread site text at raw → IsWellRead text at raw × IsReadable unread raw.kind
-stands_well unread site text at raw u boundary (
+stands_well : (site : Place) (text : List ℕ) (at : ℕ) (raw : Raw) → IsUtf8 text → IsCharBoundary text at
+    → StandsAt site text at raw → IsWellRead text at raw
+stands_well site text at raw u boundary (
   first,
   more,
   to,
@@ -173,15 +132,13 @@ stands_well unread site text at raw u boundary (
     let length_of = tokens_long text first.stop raw.stop more to.2 in
     let members = few_members kind ts (omega arith) written in
     let some = all.0.some in
-    let counts : members_in raw.kind ≡ members_in (kept_kind kind) = ap members_in keeps in (
-      record {
-        kind = subst (IsWellKind text) (sym keeps) (kind_well text kind parts);
-        starts = let from = to.0.0.0 in omega arith;
-        stops = stops;
-        long = λ _. omega arith;
-      },
-      subst (IsReadable unread) (sym keeps) (kept_readable unread kind ts past written),
-    )
+    let counts : members_in raw.kind ≡ members_in (kept_kind kind) = ap members_in keeps in
+    record {
+      kind = subst (IsWellKind text) (sym keeps) (kind_well text kind parts);
+      starts = let from = to.0.0.0 in omega arith;
+      stops = stops;
+      long = λ _. omega arith;
+    }
 
 end_well : (text : List ℕ) (at : ℕ) → at ≤ length text
     → IsWellRead text at (record { kind = raws.End; start = length text; stop = length text; too_deep = None })
@@ -194,6 +151,6 @@ end_well text at within = record {
 
 pub well_read : StatementsAreWellRead
 unfolding IsRead
-well_read unread site text at raw u boundary (inl (next, is)) =
-    subst (λ (r : Raw). IsWellRead text at r × IsReadable unread r.kind) (sym is) (end_well text at boundary.0, tt)
-well_read unread site text at raw u boundary (inr stands) = stands_well unread site text at raw u boundary stands
+well_read site text at raw u boundary (inl (next, is)) =
+    subst (IsWellRead text at) (sym is) (end_well text at boundary.0)
+well_read site text at raw u boundary (inr stands) = stands_well site text at raw u boundary stands

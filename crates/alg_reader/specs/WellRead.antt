@@ -1,12 +1,9 @@
 -- What holds of every statement that was read from a text.
-use Rattle.std.specs.Prelude.{◌≡◌, ◌≢◌, ◌≤◌, ◌-◌, ◌+◌, ℕ, true, false, List, length, take, drop, All, Option, Some, IfSome, pos, ◌≤ℤ◌}
+use Rattle.std.specs.Prelude.{◌≡◌, ◌≢◌, ◌≤◌, ◌-◌, ◌+◌, ℕ, true, false, List, length, take, drop, All, Option, IfSome, pos, ◌≤ℤ◌}
 use Rattle.std.specs.Str.{IsCharBoundary}
 use Rattle.alg_terms.specs.Limits.{MAX_LITERAL, MAX_DEPTH}
 use Rattle.alg_terms.specs.Kinds.{IsDomain}
 use Rattle.alg_terms.specs.Names.{IsName}
-use Rattle.alg_tokens.specs.declared.token.TokenKind.TheVariants as kinds
-use Rattle.alg_tokens.specs.declared.token.Word.{Word}
-use Rattle.alg_tokens.specs.declared.token.Word.TheVariants as words
 use Rattle.alg_reader.specs.declared.raw.RawTerm.{RawTerm}
 use Rattle.alg_reader.specs.declared.raw.RawEquation.{RawEquation}
 use Rattle.alg_reader.specs.declared.raw.RawNumber.{RawNumber}
@@ -17,7 +14,6 @@ use Rattle.alg_reader.specs.declared.raw.RawKind.{RawKind}
 use Rattle.alg_reader.specs.declared.raw.RawKind.TheVariants as raws
 use Rattle.alg_reader.specs.declared.raw.Span.{Span}
 use Rattle.alg_reader.specs.declared.reading.Raw.{Raw}
-use Rattle.alg_reader.specs.Tokens.{Unread}
 use Rattle.alg_reader.specs.RawTerms.{depth_of, names_in, literals_in, exponents_in}
 
 -- the bytes of a span
@@ -92,14 +88,3 @@ pub record IsWellRead (text : List ℕ) (at : ℕ) (raw : Raw) : Type 0 where
   pub stops : IsCharBoundary text raw.stop
   -- each member, and each use, takes a byte at least
   pub long : raw.kind ≢ raws.End → raw.start + members_in raw.kind ≤ raw.stop
-
--- the word of a method
-abbrev pub word_of : RawMethod → Word
-word_of methods.Ring = words.Ring
-word_of methods.Field = words.Field
-word_of (methods.Nsatz uses power limit) = words.Nsatz
-
--- no goal is by a method whose word can't be read yet
-abbrev pub IsReadable : Unread → RawKind → Type 0
-IsReadable unread (raws.Goal e method method_at) = unread (Some (kinds.Word words.By)) (word_of method) ≡ false
-IsReadable unread kind = Unit {0}

@@ -78,19 +78,29 @@ fn the_first_statement_or_fault(rt: HostRuntime) {
         // the text ends inside a statement
         ("ring R", Found::Fault(5, 6)),
         ("ring R # .", Found::Fault(5, 10)),
-        // words that can't be read yet
-        ("hyp H : x = y.", Found::Fault(20, 0)),
+        ("hyp", Found::Fault(5, 3)),
+        // hypotheses, and goals by nsatz with their options in order
+        ("hyp H : x = y.", Found::Read(0, 14)),
+        ("hyp H : x <> y.", Found::Read(0, 15)),
+        ("hyp H x = y.", Found::Fault(4, 6)),
+        ("hyp H : x.", Found::Fault(4, 9)),
+        ("hyp H : x = y by ring.", Found::Fault(4, 14)),
+        ("goal x = y by nsatz.", Found::Read(0, 20)),
+        ("goal x = y by nsatz limit 5.", Found::Read(0, 28)),
         (
-            "goal x = y by nsatz using f(H) power 2.",
-            Found::Fault(20, 14),
+            "goal x = y by nsatz using f(g(H)), K power 2 limit 5.",
+            Found::Read(0, 53),
         ),
-        // of two faults the first, and a word that can't be read before all that follow it
+        ("goal x = y by nsatz limit 5 power 2.", Found::Fault(4, 28)),
+        ("goal x = y by nsatz using power 2.", Found::Fault(4, 26)),
+        ("goal x = y by nsatz using H K.", Found::Fault(4, 28)),
+        ("goal x = y by nsatz using f(H.", Found::Fault(4, 29)),
+        // of two faults the first
         ("goal x y = $.", Found::Fault(4, 7)),
         ("goal $ y = z.", Found::Fault(2, 5)),
-        ("goal x = y by nsatz $", Found::Fault(20, 14)),
+        ("goal x = y by nsatz $", Found::Fault(2, 20)),
         ("goal x = $ by nsatz.", Found::Fault(2, 9)),
         ("goal x y by nsatz.", Found::Fault(4, 7)),
-        ("hyp", Found::Fault(20, 0)),
         ("goal x = hyp", Found::Fault(4, 9)),
         ("goal x = hom", Found::Fault(4, 9)),
     ] {

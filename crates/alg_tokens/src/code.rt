@@ -42,8 +42,6 @@ pub enum Code {
     Option,
     /// Too many parentheses are open.
     Nesting,
-    /// A word can't be read yet.
-    Later,
 }
 
 impl Code {
@@ -69,7 +67,6 @@ impl Code {
             Code::NotField => 15,
             Code::Option => 16,
             Code::Nesting => 19,
-            Code::Later => 20,
         }
     }
 

@@ -11,7 +11,6 @@ use Rattle.alg_reader.specs.declared.raw.RawKind.TheVariants.{End}
 use Rattle.alg_reader.specs.declared.reading.FileEnd.TheVariants.{Refused}
 use Rattle.alg_reader.specs.declared.reading.Raw.{Raw}
 use Rattle.alg_reader.specs.Statements.{IsRead}
-use Rattle.alg_reader.specs.Tokens.{Unread, unread_at}
 use Rattle.alg_typing.specs.Faults.{first_of}
 use Rattle.alg_typing.specs.NameFaults.{name_faults}
 use Rattle.alg_typing.specs.Resolved.{extended}
@@ -28,14 +27,14 @@ first_fault file text raw =
     option_or (option_map (fault_at code.Depth) raw.too_deep)
     (option_or (first_of (name_faults file text raw.kind)) (first_of (sort_faults file text raw.kind)))
 
-module _ (unread : Unread) (text : List ℕ) where
+module _ (text : List ℕ) where
   -- what stands at a byte behind the statements of a file: the end of the text, a statement that can't be read, or one
   -- with a fault
   abbrev pub EndsWith : ℕ → File → Result File Refusal → Type 0
-  EndsWith at file (Ok whole) = (raw : Raw) × IsRead unread Plain text at (Ok raw) × (raw.kind ≡ End) × (whole ≡ file)
+  EndsWith at file (Ok whole) = (raw : Raw) × IsRead Plain text at (Ok raw) × (raw.kind ≡ End) × (whole ≡ file)
   EndsWith at file (Err first) =
-      IsRead unread Plain text at (Err (Refused first))
-      ⊎ ((raw : Raw) × IsRead unread Plain text at (Ok raw) × (raw.kind ≢ End)
+      IsRead Plain text at (Err (Refused first))
+      ⊎ ((raw : Raw) × IsRead Plain text at (Ok raw) × (raw.kind ≢ End)
       × (first_fault file text raw ≡ Some first))
 
   -- from a byte on the text has these statements without fault, each read after those before it, and then its end or
@@ -43,20 +42,15 @@ module _ (unread : Unread) (text : List ℕ) where
   abbrev pub GoesOnWith : ℕ → File → List Raw → Result File Refusal → Type 0
   GoesOnWith at file [] outcome = EndsWith at file outcome
   GoesOnWith at file (raw ∷ raws) outcome =
-      IsRead unread Plain text at (Ok raw) × (raw.kind ≢ End) × (first_fault file text raw ≡ None)
+      IsRead Plain text at (Ok raw) × (raw.kind ≢ End) × (first_fault file text raw ≡ None)
       × GoesOnWith raw.stop (extended file text raw.kind) raws outcome
 
   -- from a byte on the text goes on with some statements
   abbrev pub ReadsFile : ℕ → File → Result File Refusal → Type 0
   ReadsFile at file outcome = (raws : List Raw) × GoesOnWith at file raws outcome
 
--- where some words can't be read yet, the file that these bytes are, or their first fault: they are no UTF-8, or the
--- first statement with a fault has it
-abbrev pub IsReadingWith : Unread → List ℕ → Result File Refusal → Type 0
-IsReadingWith unread bytes outcome =
-    (IsUtf8 bytes × ReadsFile unread bytes 0 no_statements outcome)
-    ⊎ (¬ (IsUtf8 bytes) × ((end : ℕ) × IsValidUpTo bytes end × (outcome ≡ Err (fault_at code.Utf8 end))))
-
--- today's reading of a file without answers
+-- the file that these bytes are, or their first fault: they are no UTF-8, or the first statement with a fault has it
 abbrev pub IsReadingOf : List ℕ → Result File Refusal → Type 0
-IsReadingOf = IsReadingWith (unread_at Plain)
+IsReadingOf bytes outcome =
+    (IsUtf8 bytes × ReadsFile bytes 0 no_statements outcome)
+    ⊎ (¬ (IsUtf8 bytes) × ((end : ℕ) × IsValidUpTo bytes end × (outcome ≡ Err (fault_at code.Utf8 end))))

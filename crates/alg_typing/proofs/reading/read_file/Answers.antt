@@ -21,9 +21,6 @@ returns-in-Ok-clause-refused c =
     told_all c.args.bytes.now c.in-Ok.text.now c.in-Ok.ensures.cases.0 c.in-Ok.ensures.cases.1 c.read_text.result
     c.read_text.ensures.refused
 
-pub returns-in-Ok-clause-methods : goal.returns-in-Ok-clause-methods
-returns-in-Ok-clause-methods c = c.read_text.ensures.methods
-
 -- they are none
 pub overflow_cast-end : goal.overflow_cast-end
 overflow_cast-end c =
