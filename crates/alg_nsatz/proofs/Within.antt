@@ -6,7 +6,7 @@ use Rattle.std.specs.Ordering.{int_cmp, is_lt, nat_cmp}
 use Rattle.std.specs.BTreeSet.{insert_key}
 use Rattle.std.proofs.Common.{sym, subst, ◌∙◌, arith}
 use Rattle.std.proofs.lemmas.List.{get_or_default}
-use Rattle.std.proofs.lemmas.List.Elements.{All-nil, All-cons, All-head, All-tail, All-append, All-get_or}
+use Rattle.std.proofs.lemmas.List.Elements.{All-nil, All-cons, All-head, All-tail, All-append, All-get_or, All-weaker}
 use Rattle.std.proofs.lemmas.Map.Views.{All-insert_key}
 use Rattle.alg_terms.specs.declared.file.File.{File}
 use Rattle.alg_terms.specs.declared.goals.Equation.{Equation}
@@ -16,10 +16,12 @@ use Rattle.alg_terms.specs.declared.goals.Use.{Use}
 use Rattle.alg_terms.specs.declared.term.Atom.{Atom}
 use Rattle.alg_terms.specs.declared.term.Term.{Term}
 use Rattle.alg_terms.specs.GoalRules.{IsHyp, IsNsatz, IsUse, MayBeBy}
+use Rattle.alg_terms.specs.Limits.{MAX_USES}
 use Rattle.alg_terms.specs.Members.{hyp_at, no_hyp, sort_at, uses_of}
 use Rattle.alg_mono.specs.FiniteMaps.{Each, renamed}
 use Rattle.alg_mono.specs.NumberedPolynomials.{Polynomial, product_of}
-use Rattle.alg_mono.specs.Polynomials.{poly_neg}
+use Rattle.alg_mono.specs.Numbers.{integers}
+use Rattle.alg_mono.specs.Polynomials.{IsPolynomial, poly_neg}
 use Rattle.alg_mono.proofs.Canonical.{IsCanonical-collect}
 use Rattle.alg_mono.proofs.Closure.{IsPolynomial-rename}
 use Rattle.alg_mono.proofs.Each.{Each-neg}
@@ -140,6 +142,38 @@ module _ (atoms : List Atom) where
     uses_over : (p : Use → Bool) (us : List Use) → All IsHeld us → All Over (map (used_difference file atoms) (filter p us))
     uses_over p us h = kept_holds IsHeld Over (used_difference file atoms) p use_over us h
 
+-- what is prepared is over the table
+module _ (file : File) (hyps : All (IsHyp file) file.hyps) (e : Equation) (uses : List Use)
+    (each_use : All (IsUse file e.sort) uses) where
+  abbrev own : List Atom
+  own = table file e uses
+
+  held_all : All (IsHeld own file hyps e.sort) uses
+  held_all = both own file hyps e.sort uses each_use (held_uses file e uses)
+
+  hyps_over : All (Over own) (prepared_hyps file e uses)
+  hyps_over = uses_over own file hyps e.sort (is_equation file) uses held_all
+
+  goal_over : Over own (prepared_goal file e uses)
+  goal_over =
+      product_over own (goal_difference file e uses) (nonzero_differences file own uses)
+      (difference_over own [] e (held_sides file e uses))
+      (uses_over own file hyps e.sort (is_nonzero file) uses held_all)
+
+  -- so these are polynomials
+  pub prepared_are : All (λ p. IsPolynomial nat_cmp integers p) (prepared_hyps file e uses)
+  prepared_are =
+      All-weaker (Over own) (λ p. IsPolynomial nat_cmp integers p) (λ p over. over.polynomial)
+      (prepared_hyps file e uses) hyps_over
+
+  pub prepared_is : IsPolynomial nat_cmp integers (prepared_goal file e uses)
+  prepared_is = goal_over.polynomial
+
+pub few_prepared : (file : File) (e : Equation) (uses : List Use) → length uses ≤ MAX_USES →
+    length (prepared_hyps file e uses) < 2 ^ 31
+few_prepared file e uses most =
+    let kept = kept_length (is_equation file) (used_difference file (table file e uses)) uses in omega arith
+
 module _ (law : CertificatesAreWithin) (file : File) (hyps : All (IsHyp file) file.hyps) (e : Equation) where
   abbrev Within : List Use → List ℤ → Cert → Type 0
   Within uses numbers cert =
@@ -151,18 +185,12 @@ module _ (law : CertificatesAreWithin) (file : File) (hyps : All (IsHyp file) fi
   certified_within uses power limit numbers cert is c =
       let atoms = table file e uses in
       let n = length atoms in
-      let held = both atoms file hyps e.sort uses is.each_use (held_uses file e uses) in
-      let given = uses_over atoms file hyps e.sort (is_equation file) uses held in
-      let goal = product_over atoms (goal_difference file e uses) (nonzero_differences file atoms uses)
-      (difference_over atoms [] e (held_sides file e uses))
-      (uses_over atoms file hyps e.sort (is_nonzero file) uses held) in
-      let most = is.few_uses in
-      let kept = kept_length (is_equation file) (used_difference file atoms) uses in
       let high = is.power_high in
       let far = is.limit_high in
       let within = subst (IsCertWithin n) (sym c.certificate)
-      (law n (prepared_hyps file e uses) (prepared_goal file e uses) power limit given goal (omega arith) (omega arith)
-      (omega arith) c.last c.least c.ends.1) in
+      (law n (prepared_hyps file e uses) (prepared_goal file e uses) power limit
+      (hyps_over file hyps e uses is.each_use) (goal_over file hyps e uses is.each_use)
+      (few_prepared file e uses is.few_uses) (omega arith) (omega arith) c.last c.least c.ends.1) in
       let char0 = (sort_at file e.sort).char0 in
       (c.ends.0.0, within, subst (All IsMagnitude) (sym c.constants) (constants_within n cert char0 within))
 

@@ -51,19 +51,11 @@ firsts P Q (x ∷ xs) [] h = absurd h
 firsts P Q (x ∷ xs) (y ∷ ys) h = (h.0.0, firsts P Q xs ys h.1)
 
 -- an answer to the next goal
-pub next_answered : (file : File) (goals : List Goal) (i : ℕ) (goal : Goal) (answers : List Answer) (answer : Answer) →
-    goals ≡ file.goals → i < length goals → goal ≡ slice_index_or goals i goal → AreAnswered file i answers →
-    IsAnswered file goal answer → AreAnswered file (i + 1) (answers ++ answer ∷ [])
-next_answered file goals i goal answers answer same within is so_far one =
-    more (IsAnswered file) file.goals answers i goal answer (subst (λ xs. i < length xs) same within) so_far
-    (subst (λ g. IsAnswered file g answer) (is ∙ ap (λ xs. slice_index_or xs i goal) same) one)
-
--- the next goal is one of the file
-pub next_is_goal : (file : File) (goals : List Goal) (i : ℕ) (goal : Goal) → goals ≡ file.goals → i < length goals →
-    goal ≡ slice_index_or goals i goal → All (IsGoal file) file.goals → IsGoal file goal
-next_is_goal file goals i goal same within is all =
-    subst (IsGoal file) (sym is)
-    (All-get_or (IsGoal file) goals i goal within (subst (All (IsGoal file)) (sym same) all))
+pub next_answered : (file : File) (i : ℕ) (answers : List Answer) (answer : Answer) → i < length file.goals →
+    AreAnswered file i answers → IsAnswered file (goal_at file i) answer →
+    AreAnswered file (i + 1) (answers ++ answer ∷ [])
+next_answered file i answers answer within so_far one =
+    more (IsAnswered file) file.goals answers i no_goal answer within so_far one
 
 -- all goals are answered
 pub all_answered : (file : File) (count : ℕ) (answers : List Answer) → length file.goals ≤ count →
