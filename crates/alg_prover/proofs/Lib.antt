@@ -1,4 +1,5 @@
 pub mod Answered
 pub mod Examples
+pub mod InFree
 pub mod Printing
 pub mod Verdicts
