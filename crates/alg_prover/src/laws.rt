@@ -1,5 +1,6 @@
 //! What the answers to goals say. The functions do nothing: their contracts are the laws.
 
+ghost use Rattle.alg_prover.specs.InFree.{NoDiffersInFree};
 ghost use Rattle.alg_prover.specs.Laws.{OneAnswer, ProvedIsRight, CertifiedIsRight, NoDiffers};
 
 use alg_universe::Universe;
@@ -25,9 +26,12 @@ pub fn proved_is_right<U: Universe>()
 }
 
 /// The sides of a goal by ring that is answered no are different polynomials: at the monomial of the
-/// answer, read as atoms, they have its two coefficients, which differ.
+/// answer, read as atoms, they have its two coefficients, which differ. Where the file is valid and
+/// declares no field, the polynomials fit it, and the sides have different values among them.
 pub fn no_differs()
-    ensures { NoDiffers }
+    ensures polynomials { NoDiffers }
+    ensures values { NoDiffersInFree }
 {
+    alg_meaning::laws::free_fits();
     alg_reify::laws::no_differs();
 }
