@@ -114,32 +114,7 @@ goal_found text x ts (
     (e4 ∙ ap (λ v. two v z4) eb ∙ ap (two (one b)) em)))))) (
       raws.Goal (sides t q u) m place,
       refl,
+      tt,
       (ft, fu, equal_words q.kind kq, well),
       omega arith,
     )
-
--- a dot behind what a kind of statement spells
-spelled_more : (k : RawKind) (us vs ts : List Token) → ts ≡ us ++ vs → IsSpelledKind k us → IsSpelledKind k ts
-spelled_more raws.End us vs ts e h = tt
-spelled_more (raws.Sort kind name char0) us vs ts e h = tt
-spelled_more (raws.Hom name from to) us vs ts e h = tt
-spelled_more (raws.Vars names sort) us vs ts e h = let long = ap length e ∙ length-append us vs in omega arith
-spelled_more (raws.Hyp name sides) us vs ts e h = tt
-spelled_more (raws.Goal sides way place) us vs ts e h =
-    let long = ap length e ∙ length-append us vs in omega arith
-
-body_found : (text : List ℕ) (x : Value) (ts : List Token) → Found text body x ts → KindFound text x ts
-body_found text x ts (inl h) = h
-body_found text x ts (inr (inl h)) = h
-body_found text x ts (inr (inr (inl h))) = h
-body_found text x ts (inr (inr (inr (inl h)))) = h
-body_found text x ts (inr (inr (inr (inr (inl h))))) = h
-body_found text x ts (inr (inr (inr (inr (inr h))))) = h
-
-pub statement_found : (text : List ℕ) (x : Value) (ts : List Token) → Found text (grammar rules.Statement) x ts
-    → KindFound text (act rules.Statement x) ts
-unfolding grammar act
-statement_found text x ts (y, z, us, vs, e, s, h, (d, ed, _, _, _)) =
-    let (k, ek, found, spells) = body_found text y us h in
-    let P : Value → Type 0 = λ v. KindFound text (act rules.Statement v) ts in
-    subst P (sym (e ∙ ap (two y) ed)) (k, ek, found, spelled_more k us vs ts s spells)

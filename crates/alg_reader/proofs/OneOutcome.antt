@@ -24,11 +24,11 @@ use Rattle.alg_reader.proofs.OneReading.{compare, goes_on_there, no_end, no_faul
 -- ---- two statements
 
 -- a statement is no front of another
-no_front : (v w : Tree) (t : Token) (after : List Token) → Fits (rule Statement) v → Fits (rule Statement) w
+no_front : (site : Place) (v w : Tree) (t : Token) (after : List Token) → Fits (rule (Statement site)) v → Fits (rule (Statement site)) w
     → spelled w ≡ spelled v ++ t ∷ after → ⊥
-no_front v w t after h k e =
-    let (front, d, s, dot, clear) = statement_dot v h in
-    let (front', d', s', dot', clear') = statement_dot w k in
+no_front site v w t after h k e =
+    let (front, d, s, dot, clear) = statement_dot site v h in
+    let (front', d', s', dot', clear') = statement_dot site w k in
     let whole : front ++ d ∷ (t ∷ after) ≡ front' ++ d' ∷ [] =
     sym (append_assoc front (d ∷ []) (t ∷ after)) ∙ ap (λ xs. xs ++ t ∷ after) (sym s) ∙ sym e ∙ s' in
     let (_, _, nothing_left) = first_dot front front' (t ∷ after) [] d d' clear clear' dot dot' whole in
@@ -56,7 +56,7 @@ one_meaning : (site : Place) (ts us : List Token) (kind other : RawKind) → ts 
     IsStatement site us other
     → kind ≡ other
 one_meaning site ts us kind other e (v, h, s, m) (w, k, s', m') =
-    let tree = one_tree v w h k (s ∙ e ∙ sym s') in
+    let tree = one_tree (Statement site) v w h k (s ∙ e ∙ sym s') in
     one_kind kind other (sym m ∙ ap value tree ∙ m')
 
 one_statement : (site : Place) (text : List ℕ) (at : ℕ) (raw other : Raw) →
@@ -69,8 +69,8 @@ one_statement site text at raw other (t, ts, to, past, start, (kind, (v, h, s, m
           same_raw raw other (keeps ∙ ap kept_kind one ∙ sym keeps')
           (start ∙ ap (λ x. x.start) (one_first t u ts us same) ∙ sym start') place
           (deep ∙ ap first_of_statement one ∙ sym deep')
-      | inr (inl (x, after, e, _, _)) ↦ absurd (no_front v w x after h k (s' ∙ e ∙ ap (λ xs. xs ++ x ∷ after) (sym s)))
-      | inr (inr (x, after, e, _, _)) ↦ absurd (no_front w v x after k h (s ∙ e ∙ ap (λ xs. xs ++ x ∷ after) (sym s')))
+      | inr (inl (x, after, e, _, _)) ↦ absurd (no_front site v w x after h k (s' ∙ e ∙ ap (λ xs. xs ++ x ∷ after) (sym s)))
+      | inr (inr (x, after, e, _, _)) ↦ absurd (no_front site w v x after k h (s ∙ e ∙ ap (λ xs. xs ++ x ∷ after) (sym s')))
     ]
 
 -- ---- a statement or the end, and a fault
@@ -87,7 +87,7 @@ statement_no_fault site text at raw fault (t, ts, to, past, _, (kind, (v, h, s, 
   _,
   behind,
 ) =
-    let (front, d, spells, dot, _) = statement_dot v h in
+    let (front, d, spells, dot, _) = statement_dot site v h in
     let whole : t ∷ ts ≡ front ++ d ∷ [] = sym s ∙ spells in
     elim (compare text at raw.stop stop (t ∷ ts) before to to') [
       | inl (same, _) ↦ dot_in front [] d dot (subst HasNoDot (sym same ∙ whole) clear)

@@ -70,7 +70,7 @@ free_at depth (b ∷ before) t after past = free_at (open_with depth b.kind) bef
 pub goes_on_there : (site : Place) (text : List ℕ) (before ts : List Token) (t : Token)
     (after : List Token) (stop : ℕ) (fault : Refusal)
     → ts ≡ before ++ t ∷ after → IsNext text stop (Ok t) → t.kind ≢ kinds.End → GoesPast 0 ts
-    → IsBegun (rule Statement) ts → FaultBehind site text before stop fault → ⊥
+    → IsBegun (rule (Statement site)) ts → FaultBehind site text before stop fault → ⊥
 goes_on_there site text before ts t after stop fault same next lexeme past begun (inl other) =
     no_fault text stop t fault next other
 goes_on_there site text before ts t after stop fault same next lexeme past begun (inr (inl (ends, _, _))) =
@@ -79,8 +79,8 @@ goes_on_there site text before ts t after stop fault same next lexeme past begun
     (inr (inr (u, other, _, inl (_, stuck)))) =
     let one = one_token text stop t u next other in
     let whole : ts ≡ (before ++ t ∷ []) ++ after = same ∙ sym (append_assoc before (t ∷ []) after) in
-    let here = begun_front (rule Statement) (before ++ t ∷ []) after (subst (IsBegun (rule Statement)) whole begun) in
-    let P : Token → Type 0 = λ x. IsBegun (rule Statement) (before ++ x ∷ []) in
+    let here = begun_front (rule (Statement site)) (before ++ t ∷ []) after (subst (IsBegun (rule (Statement site))) whole begun) in
+    let P : Token → Type 0 = λ x. IsBegun (rule (Statement site)) (before ++ x ∷ []) in
     stuck (subst P one here)
 goes_on_there site text before ts t after stop fault same next lexeme past begun
     (inr (inr (u, other, _, inr ((stops, _), _)))) =

@@ -49,9 +49,9 @@ pub begun_front : (f : Form) (xs ys : List Token) → IsBegun f (xs ++ ys) → I
 begun_front f xs ys (v, back, fits, e) = (v, ys ++ back, fits, e ∙ append_assoc xs ys back)
 
 -- stuck at a token: with it no statement begins
-pub stuck_there : (ts rest : List Token) (t : Token) (p : IsStuckAt (rule Statement) ts (t ∷ rest))
-    → IsBegun (rule Statement) (p.seen ++ t ∷ []) → ⊥
-stuck_there ts rest t p b = p.stuck b.0 [] (t ∷ b.1) (t, rest, b.1, refl, refl) b.2 tt (append-nil (spelled b.0)
+pub stuck_there : (site : Place) (ts rest : List Token) (t : Token) (p : IsStuckAt (rule (Statement site)) ts (t ∷ rest))
+    → IsBegun (rule (Statement site)) (p.seen ++ t ∷ []) → ⊥
+stuck_there site ts rest t p b = p.stuck b.0 [] (t ∷ b.1) (t, rest, b.1, refl, refl) b.2 tt (append-nil (spelled b.0)
     ∙ b.3 ∙ append_assoc p.seen (t ∷ []) b.1)
 
 -- reading does not stop at a dot
@@ -65,10 +65,10 @@ stopped_no_dot before t clear stops =
     no_dot_append before (t ∷ []) clear (λ is. dot_free (open_after 0 before) t.kind is stops, tt)
 
 -- without a dot there is no statement
-pub no_statement : (ts new : List Token) (e : Token) (v : Tree) → e.kind ≡ kinds.End → HasNoDot ts
-    → Fits (rule Statement) v → ts ++ e ∷ [] ≡ spelled v ++ new → ⊥
-no_statement ts new e v is clear fits cut =
-    let (front, d, spell, dot, _) = statement_dot v fits in
+pub no_statement : (site : Place) (ts new : List Token) (e : Token) (v : Tree) → e.kind ≡ kinds.End → HasNoDot ts
+    → Fits (rule (Statement site)) v → ts ++ e ∷ [] ≡ spelled v ++ new → ⊥
+no_statement site ts new e v is clear fits cut =
+    let (front, d, spell, dot, _) = statement_dot site v fits in
     let whole : ts ++ e ∷ [] ≡ front ++ d ∷ new = cut ∙ ap (λ us. us ++ new) spell ∙ append_assoc front (d ∷ []) new in
     dot_in front new d dot (subst HasNoDot whole (no_dot_append ts (e ∷ []) clear (
       λ other.
@@ -93,14 +93,14 @@ whole_statement : (site : Place) (text : List ℕ) (at mid start stop : ℕ)
     (s : HeldStatement) (kind : RawKind) → s ≡ held_statement kind → ts ≡ before ++ t ∷ [] →
     Reaches text at before mid
     → IsNext text mid (Ok t)
-    → t.kind ≢ kinds.End → t.kind ≡ kinds.Sign signs.Dot → Takes (rule Statement) (ts ++ e ∷ []) new (kind_value kind)
+    → t.kind ≢ kinds.End → t.kind ≡ kinds.Sign signs.Dot → Takes (rule (Statement site)) (ts ++ e ∷ []) new (kind_value kind)
     → ((u : Token) (us : List Token) → ts ≡ u ∷ us → start ≡ u.start) → ((us : List Token) (u : Token)
     → ts ≡ us ++ u ∷ [] → stop ≡ u.stop)
     → IsRead site text at (Ok (record { kind = s.kind; start = start; stop = stop; too_deep = s.too_deep }))
 unfolding IsRead
 whole_statement site text at mid start stop ts before new t e s kind keeps same
     (to, past, clear) next lexeme dot p starts stops =
-    let (front, d, spell, is, none_before) = statement_dot p.tree p.fits in
+    let (front, d, spell, is, none_before) = statement_dot site p.tree p.fits in
     let long : before ++ t ∷ (e ∷ []) ≡ front ++ d ∷ new =
     sym (append_assoc before (t ∷ []) (e ∷ [])) ∙ ap (λ us. us ++ e ∷ []) (sym same) ∙ p.cut
     ∙ ap (λ us. us ++ new) spell ∙ append_assoc front (d ∷ []) new in
@@ -127,7 +127,7 @@ pub read_ok : (site : Place) (text : List ℕ) (at start stop : ℕ) (ts new : L
     (fault : Refusal) (e : Token)
     (s : HeldStatement) (kind : RawKind) → s ≡ held_statement kind → e.kind ≡ kinds.End →
     IsStatementCut text at ts fault
-    → Takes (rule Statement) (ts ++ e ∷ []) new (kind_value kind)
+    → Takes (rule (Statement site)) (ts ++ e ∷ []) new (kind_value kind)
     → ((u : Token) (us : List Token) → ts ≡ u ∷ us → start ≡ u.start) → ((us : List Token) (u : Token)
     → ts ≡ us ++ u ∷ [] → stop ≡ u.stop)
     → IsRead site text at (Ok (record { kind = s.kind; start = start; stop = stop; too_deep = s.too_deep }))
@@ -135,13 +135,13 @@ read_ok site text at start stop ts new fault e s kind keeps is (inl (
   mid,
   (_, _, clear),
   _,
-)) p starts stops = absurd (no_statement ts new e p.tree is clear p.fits p.cut)
+)) p starts stops = absurd (no_statement site ts new e p.tree is clear p.fits p.cut)
 read_ok site text at start stop ts new fault e s kind keeps is (inr (inl (
   mid,
   (_, _, clear),
   _,
   _,
-))) p starts stops = absurd (no_statement ts new e p.tree is clear p.fits p.cut)
+))) p starts stops = absurd (no_statement site ts new e p.tree is clear p.fits p.cut)
 read_ok site text at start stop ts new fault e s kind keeps is (inr (inr (
   before,
   t,
@@ -164,7 +164,7 @@ read_ok site text at start stop ts new fault e s kind keeps is (inr (inr (
   lexeme,
   inr (stops_there, _),
 ))) p starts stops =
-    absurd (no_statement ts new e p.tree is (subst HasNoDot (sym same)
+    absurd (no_statement site ts new e p.tree is (subst HasNoDot (sym same)
     (stopped_no_dot before t reaches.2 stops_there)) p.fits p.cut)
 
 pub no_memory : (site : Place) (text : List ℕ) (at : ℕ) → IsRead site text at (Err NoMemory)

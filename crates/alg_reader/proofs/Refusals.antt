@@ -42,7 +42,7 @@ refusal_of_kind (kinds.Sign sign) at fault other = refl
 stuck_token : (site : Place) (text : List ℕ) (at stop : ℕ) (ts seen after : List Token) (t : Token)
     (fault : Refusal)
     → TokensTo text at ts stop → GoesPast 0 seen → HasNoDot seen → ts ≡ seen ++ t ∷ after
-    → IsBegun (rule Statement) seen → (IsBegun (rule Statement) (seen ++ t ∷ []) → ⊥) → t.kind ≢ kinds.End
+    → IsBegun (rule (Statement site)) seen → (IsBegun (rule (Statement site)) (seen ++ t ∷ []) → ⊥) → t.kind ≢ kinds.End
     → IsRead site text at (Err (Refused (refusal t fault)))
 unfolding IsRead
 stuck_token site text at stop ts seen after t fault to past clear same begun stuck lexeme =
@@ -56,8 +56,8 @@ stuck_token site text at stop ts seen after t fault to past clear same begun stu
 stuck_inside : (site : Place) (text : List ℕ) (at : ℕ) (ts seen rest : List Token) (e t : Token)
     (fault : Refusal)
     → e.kind ≡ kinds.End → IsStatementCut text at ts fault
-    → ts ++ e ∷ [] ≡ seen ++ t ∷ rest → IsBegun (rule Statement) seen
-    → (IsBegun (rule Statement) (seen ++ t ∷ []) → ⊥) → t.kind ≢ kinds.End
+    → ts ++ e ∷ [] ≡ seen ++ t ∷ rest → IsBegun (rule (Statement site)) seen
+    → (IsBegun (rule (Statement site)) (seen ++ t ∷ []) → ⊥) → t.kind ≢ kinds.End
     → IsRead site text at (Err (Refused (refusal t fault)))
 stuck_inside site text at ts seen rest e t fault is (inl (mid, (to, past, clear), _)) cut begun stuck lexeme =
     let (after, same) = split_token ts seen rest e t is lexeme cut in
@@ -89,13 +89,13 @@ stuck_inside site text at ts seen rest e t fault is (inr (inr (
     (subst HasNoDot front clear)) same begun stuck lexeme
 
 -- stuck behind a dot: the tokens are a statement
-never_behind_dot : (before us rest : List Token) (last t : Token) (p : IsStuckAt (rule Statement) us (t ∷ rest))
+never_behind_dot : (site : Place) (before us rest : List Token) (last t : Token) (p : IsStuckAt (rule (Statement site)) us (t ∷ rest))
     → p.seen ≡ before ++ last ∷ [] → HasNoDot before
     → last.kind ≡ kinds.Sign signs.Dot → t.kind ≡ kinds.End → ⊥
 unfolding rule_goes_on
-never_behind_dot before us rest last t p all clear dot is =
+never_behind_dot site before us rest last t p all clear dot is =
     let (v, later, fits, e) = p.begun in
-    let (front, d, spell, so, none_before) = statement_dot v fits in
+    let (front, d, spell, so, none_before) = statement_dot site v fits in
     let long : before ++ last ∷ later ≡ front ++ d ∷ [] = sym (append_assoc before (last ∷ []) later)
     ∙ ap (λ us. us ++ later) (sym all) ∙ sym e ∙ spell in
     let (_, _, nothing_left) = first_dot before front later [] last d clear none_before dot so long in
@@ -105,7 +105,7 @@ never_behind_dot before us rest last t p all clear dot is =
 -- stuck behind all tokens
 stuck_behind : (site : Place) (text : List ℕ) (at : ℕ) (ts us rest : List Token) (t : Token)
     (fault : Refusal)
-    → IsStatementCut text at ts fault → (p : IsStuckAt (rule Statement) us (t ∷ rest))
+    → IsStatementCut text at ts fault → (p : IsStuckAt (rule (Statement site)) us (t ∷ rest))
     → p.seen ≡ ts → t.kind ≡ kinds.End → (ts ≡ [] → fault.code ≡ code_number code.End → ⊥) →
     IsRead site text at (Err (Refused fault))
 unfolding IsRead
@@ -113,14 +113,14 @@ stuck_behind site text at ts us rest t fault (inl (mid, reaches, next)) p all is
   ts,
   mid,
   reaches,
-  subst (IsBegun (rule Statement)) all p.begun,
+  subst (IsBegun (rule (Statement site))) all p.begun,
   inl next,
 )
 stuck_behind site text at ts us rest t fault (inr (inl (mid, reaches, next, five))) p all is inside = (
   ts,
   mid,
   reaches,
-  subst (IsBegun (rule Statement)) all p.begun,
+  subst (IsBegun (rule (Statement site))) all p.begun,
   inr (inl (
     next,
     λ empty. inside empty (ap (λ r. r.code) five),
@@ -137,7 +137,7 @@ stuck_behind site text at ts us rest t fault (inr (inr (
   lexeme,
   inl dot,
 ))) p all is inside =
-    absurd (never_behind_dot before us rest last t p (all ∙ split) reaches.2 dot is)
+    absurd (never_behind_dot site before us rest last t p (all ∙ split) reaches.2 dot is)
 stuck_behind site text at ts us rest t fault (inr (inr (
   before,
   last,
@@ -148,12 +148,12 @@ stuck_behind site text at ts us rest t fault (inr (inr (
   lexeme,
   inr stops,
 ))) p all is inside =
-    let begun : IsBegun (rule Statement) (before ++ last ∷ []) = subst (IsBegun (rule Statement)) (all
+    let begun : IsBegun (rule (Statement site)) (before ++ last ∷ []) = subst (IsBegun (rule (Statement site))) (all
     ∙ split) p.begun in (
       before,
       mid,
       reaches,
-      begun_front (rule Statement) before (last ∷ []) begun,
+      begun_front (rule (Statement site)) before (last ∷ []) begun,
       inr (inr (
         last,
         next,
@@ -174,10 +174,10 @@ cut_tokens text at ts fault (inr (inr (before, last, mid, split, (to, _, _), nex
 pub read_refused : (site : Place) (text : List ℕ) (at : ℕ) (ts rest : List Token) (e t : Token)
     (fault : Refusal)
     → e.kind ≡ kinds.End → IsStatementCut text at ts fault
-    → (ts ≡ [] → fault.code ≡ code_number code.End → ⊥) → IsStuckAt (rule Statement) (ts ++ e ∷ []) (t ∷ rest)
+    → (ts ≡ [] → fault.code ≡ code_number code.End → ⊥) → IsStuckAt (rule (Statement site)) (ts ++ e ∷ []) (t ∷ rest)
     → IsRead site text at (Err (Refused (refusal t fault)))
 read_refused site text at ts rest e t fault is cut inside p = elim (end_or_not t.kind) [
-  | inr lexeme ↦ stuck_inside site text at ts p.seen rest e t fault is cut p.cut p.begun (stuck_there
+  | inr lexeme ↦ stuck_inside site text at ts p.seen rest e t fault is cut p.cut p.begun (stuck_there site
       (ts ++ e ∷ []) rest t p) lexeme
   | inl ended ↦
       let (mid, to) = cut_tokens text at ts fault cut in

@@ -3,7 +3,8 @@ use Rattle.std.proofs.Common.{◌≡◌, ℕ, inl, inr, List, [], ◌∷◌, ◌
 use Rattle.std.specs.List.{AllByRecursion}
 use Rattle.alg_tokens.specs.declared.token.Token.{Token}
 use Rattle.alg_tokens.specs.declared.token.Sign.TheVariants as signs
-use Rattle.alg_tokens.specs.declared.token.Word.{Word}
+use Rattle.alg_tokens.specs.declared.token.TokenKind.{TokenKind}
+use Rattle.alg_tokens.specs.declared.token.TokenKind.TheVariants as kinds
 use Rattle.alg_tokens.specs.declared.token.Word.TheVariants as words
 use Rattle.alg_reader.specs.declared.raw.RawUse.{RawUse}
 use Rattle.alg_reader.specs.declared.raw.RawMethod.{RawMethod}
@@ -101,10 +102,10 @@ using_found text x ts (inr (
     subst P (sym (e ∙ ap (λ v. two v z) ew ∙ ap (two (one w)) (e' ∙ ap (λ v. two v r) eu ∙ ap (two (used u)) er)))
     ((f, rest), omega arith)
 
-option_found : (text : List ℕ) (w : Word) (x : Value) (ts : List Token) → Found text (option w) x ts
+pub option_found : (text : List ℕ) (k : TokenKind) (x : Value) (ts : List Token) → Found text (option k) x ts
     → IsOption (option_of x)
-option_found text w x ts (inl (e, _)) = let P : Value → Type 0 = λ v. IsOption (option_of v) in subst P (sym e) tt
-option_found text w x ts (inr (y, z, us, vs, e, _, (o, eo, _, _, _), h)) =
+option_found text k x ts (inl (e, _)) = let P : Value → Type 0 = λ v. IsOption (option_of v) in subst P (sym e) tt
+option_found text k x ts (inr (y, z, us, vs, e, _, (o, eo, _, _, _), h)) =
     let (n, en, range, _, _) = number_at text z vs h in
     let P : Value → Type 0 = λ v. IsOption (option_of v) in
     subst P (sym (e ∙ ap (λ v. two v z) eo ∙ ap (two (one o)) en)) (record { low = range.0; high = range.1 })
@@ -123,8 +124,8 @@ options_found text x ts (y, z, us, vs, e, s, h, (v, w, us', vs', e', _, k, l)) =
     subst P (sym (e ∙ ap (two y) e')) (
       (
         all_of (IsWellUse text) (uses_of y) all,
-        option_found text words.Power v us' k,
-        option_found text words.Limit w vs' l,
+        option_found text (kinds.Word words.Power) v us' k,
+        option_found text (kinds.Word words.Limit) w vs' l,
       ),
       few,
     )

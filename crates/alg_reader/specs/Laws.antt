@@ -5,6 +5,7 @@ use Rattle.alg_reader.specs.declared.place.Place.{Place}
 use Rattle.alg_reader.specs.declared.reading.Raw.{Raw}
 use Rattle.alg_reader.specs.declared.reading.FileEnd.{FileEnd}
 use Rattle.alg_reader.specs.declared.reading.FileEnd.TheVariants.{NoMemory}
+use Rattle.alg_reader.specs.Places.{MayStand}
 use Rattle.alg_reader.specs.Statements.{IsRead}
 use Rattle.alg_reader.specs.WellRead.{IsWellRead}
 
@@ -12,6 +13,11 @@ use Rattle.alg_reader.specs.WellRead.{IsWellRead}
 abbrev pub StatementsAreWellRead : Type 0
 StatementsAreWellRead = (place : Place) (text : List ℕ) (at : ℕ) (raw : Raw) → IsUtf8 text
     → IsCharBoundary text at → IsRead place text at (Ok raw) → IsWellRead text at raw
+
+-- whatever is read at a place may stand there
+abbrev pub StatementsMayStand : Type 0
+StatementsMayStand = (place : Place) (text : List ℕ) (at : ℕ) (raw : Raw) → IsUtf8 text
+    → IsCharBoundary text at → IsRead place text at (Ok raw) → MayStand place raw.kind
 
 -- at each place of a text there is at most one statement, end or first fault
 abbrev pub OneOutcome : Type 0

@@ -18,9 +18,9 @@ use Rattle.alg_reader.specs.Meaning.{value, kind_value}
 use Rattle.alg_reader.specs.TooDeep.{kept_kind, first_of_statement}
 use Rattle.alg_reader.specs.Tokens.{TokensTo, GoesPast, Reaches, StopsAt, end_of}
 
--- the form of what may stand at a place: at each of them a declaration or a goal
+-- the form of what may stand at a place
 abbrev pub statement_at : Place → Form
-statement_at place = rule Statement
+statement_at place = rule (Statement place)
 
 -- the grammar derives the tokens at a place, and they say this
 abbrev pub IsStatement : Place → List Token → RawKind → Type 0

@@ -1,7 +1,7 @@
 //! Places of a text, by what stood before them.
 
-/// Which statements may stand at a place, by what stood before it. Today declarations and goals may
-/// stand at each.
+/// Which statements may stand at a place, by what stood before it. Declarations and goals may stand
+/// at each.
 #[derive(Clone, Copy, PartialEq, Eq, Debug)]
 pub enum Place {
     /// A file without answers.

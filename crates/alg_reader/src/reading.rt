@@ -4,6 +4,7 @@ ghost use Rattle.std.specs.Prelude.{◌≡◌, ◌≤◌, ◌∷◌, ◌++◌, [
 ghost use Rattle.std.specs.Str.{IsCharBoundary};
 ghost use Rattle.alg_terms.specs.Limits.{MAX_TEXT};
 ghost use Rattle.alg_tokens.specs.declared.token.Token.{Token};
+ghost use Rattle.alg_reader.specs.Places.{MayStand};
 ghost use Rattle.alg_reader.specs.Statements.{IsRead};
 ghost use Rattle.alg_reader.specs.Tokens.{refusal};
 ghost use Rattle.alg_reader.specs.WellRead.{IsWellRead};
@@ -43,7 +44,7 @@ impl From<AllocError> for FileEnd {
     }
 }
 
-/// Reads the statement at a byte, or the end of the text. All places allow what `Plain` allows.
+/// Reads the statement at a byte that may stand at a place, or the end of the text.
 ///
 /// Refused with the first fault: code 2 or 3 where the text can't be cut, 4 at the first token with
 /// which no statement begins, 5 where the text ends inside the statement, and 19 at a `(` where 200
@@ -53,6 +54,7 @@ pub fn read_statement(alloc: Global, text: &str, at: u32, place: Place) -> Resul
     requires boundary { IsCharBoundary text.now at }
     ensures read { IsRead place text.now at result }
     ensures well_read { IfOk result (IsWellRead text.now at) }
+    ensures may_stand { IfOk result (λ raw. MayStand place raw.kind) }
 {
     let cut = cut_statement(alloc, text, at)?;
     let fault = cut.fault;
@@ -71,7 +73,7 @@ pub fn read_statement(alloc: Global, text: &str, at: u32, place: Place) -> Resul
     }
     let (start, stop) = ends_of(&cut.tokens, at);
     let mut cursor = Cursor::new(&cut.tokens, end);
-    match cursor.statement(alloc) {
+    match cursor.statement(alloc, place) {
         Ok(HeldStatement { kind, too_deep }) => Ok(Raw {
             kind,
             start,

@@ -11,7 +11,7 @@ use Rattle.alg_tokens.specs.declared.token.TokenKind.TheVariants as kinds
 use Rattle.alg_reader.proofs.Chains.{empty_below_one}
 use Rattle.alg_reader.proofs.Outcomes.{no_memory, passed_no_memory, read_end, read_ok}
 use Rattle.alg_reader.proofs.Refusals.{read_refused}
-use Rattle.alg_reader.proofs.WellRead.{well_read}
+use Rattle.alg_reader.proofs.WellRead.{well_read, may_stand}
 use Rattle.alg_reader.proofs.reading.read_statement.Goals as goal
 use Rattle.alg_reader.proofs.reading.read_statement.Goals.{else-is_empty-via-then-is_empty+else-fault-number, else-is_empty-via-else-is_empty}
 
@@ -24,7 +24,7 @@ returns-in-Ok-clause-read c =
     let whole : c.new-cursor.result ≡ tokens ++ e ∷ [] = c.new-cursor.ensures
     ∙ ap (λ us. us ++ e ∷ []) c.deref-2.ensures.value in
     let (kind, keeps, p) = c.in-Ok.ensures in
-    let P : List Token → Type 0 = λ us. Takes (rule Statement) us c.statement.new.self (kind_value kind) in
+    let P : List Token → Type 0 = λ us. Takes (rule (Statement c.args.place)) us c.statement.new.self (kind_value kind) in
     read_ok c.args.place c.args.text.now c.args.at c.ends_of-start.result.0
     c.ends_of-start.result.1 tokens c.statement.new.self
     fault e _ kind keeps refl c.in_ok-cut.ensures (subst P whole p)
@@ -33,6 +33,10 @@ returns-in-Ok-clause-read c =
 
 pub returns-in-Ok-clause-well_read : goal.returns-in-Ok-clause-well_read
 returns-in-Ok-clause-well_read c = well_read c.args.place c.args.text.now c.args.at _ c.utf8.text c.requires.boundary
+    (returns-in-Ok-clause-read c)
+
+pub returns-in-Ok-clause-may_stand : goal.returns-in-Ok-clause-may_stand
+returns-in-Ok-clause-may_stand c = may_stand c.args.place c.args.text.now c.args.at _ c.utf8.text c.requires.boundary
     (returns-in-Ok-clause-read c)
 
 -- the grammar is stuck
@@ -44,10 +48,10 @@ returns-clause-read c =
     let whole : c.new-cursor.result ≡ tokens ++ e ∷ [] = c.new-cursor.ensures
     ∙ ap (λ us. us ++ e ∷ []) c.deref-2.ensures.value in
     let t = c.in-Err-Unexpected.token in
-    let fails : Fails (rule Statement) c.new-cursor.result (Unexpected t) = subst (Fails
-    (rule Statement) c.new-cursor.result) c.in-Err-Unexpected.field-0-is c.in-Err-Unexpected.ensures in
+    let fails : Fails (rule (Statement c.args.place)) c.new-cursor.result (Unexpected t) = subst (Fails
+    (rule (Statement c.args.place)) c.new-cursor.result) c.in-Err-Unexpected.field-0-is c.in-Err-Unexpected.ensures in
     let (rest, stops) = fails in
-    let P : List Token → Type 0 = λ us. IsStuckAt (rule Statement) us (t ∷ rest) in
+    let P : List Token → Type 0 = λ us. IsStuckAt (rule (Statement c.args.place)) us (t ∷ rest) in
     let some : tokens ≡ [] → fault.code ≡ code_number code.End → ⊥ = λ nothing five.
     let empty = ap length (c.deref.ensures.value ∙ nothing) in
     elim c.else-is_empty.branch [

@@ -52,7 +52,7 @@ add-requires c =
       size = c.requires;
       well_read = (c.statements.at, c.in_ok-raw.ensures.well_read);
       room = has_room c.statements.declared c.args.text.now c.statements.at c.in_ok-raw.raw invariant.few
-          c.in_ok-raw.ensures.well_read c.in_default.not-End c.requires;
+          c.in_ok-raw.ensures.well_read c.in_default.not-End c.requires c.in_ok-raw.ensures.may_stand;
     }
 
 pub same-declared-in-Continue-branch-2 : goal.same-declared-in-Continue-branch-2
