@@ -85,7 +85,7 @@ combined_found text format x ts (
     let P : Value → Type 0 = λ v. CombinedFound text (act_combined v) in
     subst P (sym (e ∙ ap (λ v. two v z) ef ∙ ap (two (one f)) (e1 ∙ ap (λ v. two v z1) ew ∙ ap (two (one w))
     (e2 ∙ ap (λ v. two v z2) eb ∙ ap (two (int b)) (e3 ∙ ap (λ v. two v z3) ec ∙ ap (two (one c))
-    (e4 ∙ ap (two y4) (e5 ∙ ap (λ v. two v z5) ei)))))) ) (
+    (e4 ∙ ap (two y4) (e5 ∙ ap (λ v. two v z5) ei))))))) (
       record { first = numeral_of f; b = b; n = cofactor_of y4; j = numeral_of i; d = option_of z5 },
       refl,
       numeral_well f range,

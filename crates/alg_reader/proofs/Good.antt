@@ -236,8 +236,15 @@ good_grammar rules.Leaf = (
   refl,
   number_apart,
 )
-good_grammar rules.Atom = (tt, (good_token (kinds.Sign signs.ParenLeft) (seq (rule rules.Atom)
-    (sign signs.ParenRight)) (tt, tt, atom_then_close), refl), λ n h h'. cc)
+good_grammar rules.Atom = (
+  tt,
+  (
+    good_token (kinds.Sign signs.ParenLeft) (seq (rule rules.Atom)
+        (sign signs.ParenRight)) (tt, tt, atom_then_close),
+    refl,
+  ),
+  λ n h h'. cc,
+)
 good_grammar rules.Factor = (tt, good_option (kinds.Sign signs.Caret), atom_then_exponent)
 good_grammar rules.Factors = (
   tt,

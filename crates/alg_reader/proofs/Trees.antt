@@ -133,10 +133,13 @@ constant_tree = by_rule rules.Constant (both _ _ number_tree (both _ _ (word (ki
 
 conditional_tree : Derived (rule rules.Conditional)
 unfolding grammar
-conditional_tree = by_rule rules.Conditional (both _ _ (word (kinds.Word words.If)) (pair condition_tree.0 end, (
-  condition_tree.1,
-  tt,
-)))
+conditional_tree = by_rule rules.Conditional (both _ _ (word (kinds.Word words.If)) (
+  pair condition_tree.0 end,
+  (
+    condition_tree.1,
+    tt,
+  ),
+))
 
 certified_tree : Derived (rule rules.Certified)
 unfolding grammar

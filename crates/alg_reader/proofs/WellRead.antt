@@ -1,5 +1,5 @@
 -- What was read is well read.
-use Rattle.std.proofs.Common.{◌≡◌, ◌≤◌, ◌+◌, ℕ, nat_lt, inl, inr, Bool, true, false, cond, List, map, [], ◌∷◌, ◌++◌, length, length-append, refl, ap, sym, ◌∙◌, subst, arith, Option, Some, None, is_none, pos, ◌≤ℤ◌}
+use Rattle.std.proofs.Common.{◌≡◌, ◌≤◌, ℕ, nat_lt, inl, inr, true, false, cond, List, map, [], ◌∷◌, length, refl, ap, sym, ◌∙◌, subst, arith, None, pos, ◌≤ℤ◌}
 use Rattle.std.specs.List.{AllByRecursion}
 use Rattle.std.specs.Str.{IsUtf8, IsCharBoundary}
 use Rattle.std.proofs.lemmas.Bool.Decides.{nat_tests}
@@ -177,8 +177,7 @@ stands_well site text at raw u boundary (
     let members = few_members kind ts (omega arith) written in
     let some = all.0.some in
     let stands : MayStand site kind = subst (MayStand site) same may in
-    let counts : members_in raw.kind ≡ members_in (kept_kind kind) = ap members_in keeps in
-    (
+    let counts : members_in raw.kind ≡ members_in (kept_kind kind) = ap members_in keeps in (
       record {
         kind = subst (IsWellKind text) (sym keeps) (kind_well text kind parts);
         starts = let from = to.0.0.0 in omega arith;
@@ -199,7 +198,8 @@ end_well text at within = record {
 
 pub well_read : StatementsAreWellRead
 unfolding IsRead
-well_read site text at raw u boundary (inl (next, is)) = subst (IsWellRead text at) (sym is) (end_well text at boundary.0)
+well_read site text at raw u boundary (inl (next, is)) =
+    subst (IsWellRead text at) (sym is) (end_well text at boundary.0)
 well_read site text at raw u boundary (inr stands) = (stands_well site text at raw u boundary stands).0
 
 pub may_stand : StatementsMayStand

@@ -1,5 +1,5 @@
 -- What holds of every statement that was read from a text.
-use Rattle.std.specs.Prelude.{◌≡◌, ◌≢◌, ◌≤◌, ◌-◌, ◌+◌, ℕ, true, false, List, length, take, drop, All, Option, Some, IfSome, ℤ, pos, ◌≤ℤ◌}
+use Rattle.std.specs.Prelude.{◌≡◌, ◌≢◌, ◌≤◌, ◌-◌, ◌+◌, ℕ, true, false, List, length, take, drop, All, Option, IfSome, ℤ, pos, ◌≤ℤ◌}
 use Rattle.std.specs.Str.{IsCharBoundary}
 use Rattle.std.proofs.Math.IntN.{neg_ℤ}
 use Rattle.alg_terms.specs.Limits.{MAX_LITERAL, MAX_DEPTH}

@@ -91,7 +91,9 @@ impl Cursor<'_> {
     pub fn sees_number(&self) -> bool
         ensures { MatchBool result (Starts number self.now) (Lacks number self.now) }
     {
-        self.sees(TokenKind::Number(0)) || self.sees(TokenKind::Number(1)) || self.sees(TokenKind::Number(2))
+        self.sees(TokenKind::Number(0))
+            || self.sees(TokenKind::Number(1))
+            || self.sees(TokenKind::Number(2))
     }
 
     /// Takes the next token, which is to be of this kind.

@@ -24,8 +24,7 @@ returns-in_err-combined c =
 pub returns : goal.returns
 unfolding grammar act
 returns c =
-    let o = owes_token (owes_rule (rules.Step c.args.format) _) c.in_ok-word.ensures in
-    (
+    let o = owes_token (owes_rule (rules.Step c.args.format) _) c.in_ok-word.ensures in (
       _,
       c.plain.ensures,
       rw (c.mono_or.ensures, c.unwrap_or.ensures, c.number_one.ensures) (o.takes _ _ c.in_ok-combined.ensures),
