@@ -13,7 +13,8 @@ use Rattle.alg_terms.specs.declared.file.File.{File}
 use Rattle.alg_terms.specs.declared.goals.Goal.{Goal}
 use Rattle.alg_terms.specs.declared.term.Atom.{Atom}
 use Rattle.alg_terms.specs.declared.term.Term.{Term}
-use Rattle.alg_printer.specs.Monomials.{goal_atoms, factors_text, mono_text}
+use Rattle.alg_printer.specs.Monomials.{factors_text, mono_text}
+use Rattle.alg_reify.specs.Table.{goal_atoms}
 use Rattle.alg_printer.specs.Names.{listed}
 use Rattle.alg_printer.specs.Terms.{term_text}
 

@@ -16,7 +16,8 @@ use Rattle.alg_terms.specs.declared.goals.Goal.{Goal}
 use Rattle.alg_terms.specs.declared.term.Atom.{Atom}
 use Rattle.alg_terms.specs.Members.{goal_at}
 use Rattle.alg_printer.specs.Answers.{answer_text, constants_text}
-use Rattle.alg_printer.specs.Monomials.{goal_atoms, mono_text}
+use Rattle.alg_printer.specs.Monomials.{mono_text}
+use Rattle.alg_reify.specs.Table.{goal_atoms}
 use Rattle.alg_printer.specs.Statements.{goal_text}
 use Rattle.alg_printer.specs.Text.{answer_at, statement_text}
 

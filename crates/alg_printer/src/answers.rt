@@ -4,17 +4,18 @@ ghost use Rattle.std.specs.Prelude.{◌≡◌, ◌<◌, ◌++◌, [], length, Al
 ghost use Rattle.std.specs.List.{flat_map};
 ghost use Rattle.alg_terms.specs.Members.{uses_of};
 ghost use Rattle.alg_printer.specs.Answers.{conditions_text, constants_text, scale_text, multiple_text, over_text, divisor_text, line_text, step_text, power_text, cert_text, no_text, answer_text};
-ghost use Rattle.alg_printer.specs.Monomials.{goal_atoms, IsAtomOf, IsOverAtoms};
+ghost use Rattle.alg_printer.specs.Monomials.{IsAtomOf, IsOverAtoms};
+ghost use Rattle.alg_reify.specs.Table.{goal_atoms};
 ghost use Rattle.alg_printer.specs.Printable.{IsLineOver, IsStepOver, IsCertOver, HasParts};
 ghost use Rattle.alg_printer.specs.Terms.{IsNamed};
 
 use crate::NoMemory;
-use crate::monomials::{goal_table, put_factors, put_monomial};
+use crate::monomials::{put_factors, put_monomial};
 use crate::terms::put_term;
 use crate::text::Text;
 use alg_lines::{Answer, Cert, GoalStep, Line};
 use alg_mono::Mono;
-use alg_reify::Atoms;
+use alg_reify::{Atoms, goal_table};
 use alg_terms::{File, Goal, Term};
 use std::alloc::Global;
 

@@ -12,13 +12,13 @@ use Rattle.alg_mono.specs.FiniteMaps.{Each}
 use Rattle.alg_mono.specs.Mono.{Monomial}
 use Rattle.alg_mono.specs.Monomials.{IsMono}
 use Rattle.alg_mono.specs.Polynomials.{MAX}
-use Rattle.alg_printer.specs.Monomials.{goal_atoms, IsOverAtoms}
+use Rattle.alg_printer.specs.Monomials.{IsOverAtoms}
 use Rattle.alg_printer.specs.Printable.{IsPrintable, HasForm, IsInteger}
 use Rattle.alg_reify.specs.FieldLaws.{FieldNoIsOverTheTable, FieldNoIsWithinRange, FieldTermsMayStand}
 use Rattle.alg_reify.specs.FieldVerdict.{FieldVerdict, IsFieldVerdict}
 use Rattle.alg_reify.specs.Laws.{NoIsOverTheTable, NoIsWithinRange}
 use Rattle.alg_reify.specs.RingVerdict.{RingVerdict, IsRingVerdict, own_table}
-use Rattle.alg_reify.specs.Table.{table, MAX_ATOMS}
+use Rattle.alg_reify.specs.Table.{goal_atoms, table, MAX_ATOMS}
 use Rattle.alg_terms.specs.declared.file.File.{File}
 use Rattle.alg_terms.specs.declared.goals.Goal.{Goal}
 use Rattle.alg_terms.specs.declared.goals.Method.TheVariants.{ByRing, ByField}

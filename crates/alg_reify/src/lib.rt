@@ -8,6 +8,7 @@
 #![tactic(auto)]
 
 mod atoms;
+mod goal_table;
 pub mod laws;
 mod making;
 mod stop;
@@ -17,5 +18,6 @@ mod tests;
 pub use alg_poly::{Mono, Overrun, Poly};
 pub use alg_terms::NoMemory;
 pub use atoms::{Atoms, AtomsEnd, atoms_of};
+pub use goal_table::goal_table;
 pub use making::{make_atom, reify};
 pub use stop::Stop;
