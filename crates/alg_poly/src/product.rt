@@ -75,7 +75,8 @@ fn multiply(alloc: Global, a: &[Term], b: &[Term]) -> Result<Vec<Term>, NoMemory
     merge(alloc, &front, &back)
 }
 
-/// The power of a list of terms, by squaring.
+/// The power of a list of terms: of one term by squaring, else by products with the list. Of the
+/// others no more than 127 factors keep the limit on norms.
 fn raise(alloc: Global, terms: &[Term], n: u32) -> Result<Vec<Term>, NoMemory>
     requires sound { IsPolynomial nat_cmp integers terms.now }
     requires norms { norm terms.now ^ n ≤ MAX }
@@ -87,12 +88,12 @@ fn raise(alloc: Global, terms: &[Term], n: u32) -> Result<Vec<Term>, NoMemory>
         one.push((Mono::one(alloc), 1))?;
         return Ok(one);
     }
-    let half = raise(alloc, terms, n / 2)?;
-    let square = multiply(alloc, &half, &half)?;
-    if n % 2 == 0 {
-        return Ok(square);
+    if terms.len() > 1 || n % 2 == 1 {
+        let rest = raise(alloc, terms, n - 1)?;
+        return multiply(alloc, terms, &rest);
     }
-    multiply(alloc, terms, &square)
+    let half = raise(alloc, terms, n / 2)?;
+    multiply(alloc, &half, &half)
 }
 
 impl Poly {
@@ -123,7 +124,8 @@ impl Poly {
         Ok(Poly { terms })
     }
 
-    /// The power, by at most two products for each binary digit of `n`. The power 0 is 1.
+    /// The power, by `n` products with `self`, and where that has one term by at most two products
+    /// for each binary digit of `n`. The power 0 is 1.
     ///
     /// Where `self` is not 0, `Range` exactly where the norm to the `n` is over 2^127 - 1, and else
     /// `Degree` exactly where `n` times the degree is over 1,000.
