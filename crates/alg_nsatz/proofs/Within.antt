@@ -47,7 +47,7 @@ use Rattle.alg_reify.proofs.Prepared.{left_held, right_held}
 use Rattle.alg_reify.proofs.Uses.{use_leaves-at}
 use Rattle.alg_nsatz.specs.Laws.{ProvedIsWithin}
 use Rattle.alg_nsatz.specs.Verdict.{Certifies, NsatzVerdict, IsVerdictBy}
-use Rattle.alg_nsatz.proofs.Found.{kept_length}
+use Rattle.alg_reify.proofs.UseTurns.{kept_length}
 use Rattle.std.proofs.lemmas.List.Elements.{recursion_from_All}
 
 -- ---- lists of which something holds
