@@ -13,3 +13,9 @@ pub mod Answers
 pub mod Reports
 pub mod CertReports
 pub mod SameTerms
+pub mod FactorCounts
+pub mod Powers
+pub mod NodeEnds
+pub mod NumberTests
+pub mod Fields
+pub mod Few

@@ -6,6 +6,8 @@ use Rattle.std.proofs.lemmas.List.{take_more}
 use Rattle.std.proofs.lemmas.List.Sums.{sum_by-append, sum_by-cons}
 use Rattle.std.proofs.lemmas.Nat.{mul-le}
 use Rattle.std.proofs.Math.Nat.{mul_assoc}
+use Rattle.std.specs.declared.result.Result.{Result}
+use Rattle.alg_mono.specs.declared.ends.Overrun.{Overrun}
 use Rattle.alg_mono.specs.Monomials.{MAX_DEGREE}
 use Rattle.alg_mono.specs.NumberedPolynomials.{Polynomial}
 use Rattle.alg_mono.specs.Outcomes.{Outcome, outcome, has_zero, is_nothing, norm_product, product_outcome}
@@ -13,9 +15,8 @@ use Rattle.alg_mono.specs.Polynomials.{MAX, norm, poly_degree}
 use Rattle.alg_mono.proofs.Outcomes.{said, says_at}
 use Rattle.alg_reify.specs.Preparing.{times_each}
 use Rattle.alg_reify.proofs.ProductRules.{first_nothing, some_nothing}
-use Rattle.alg_check.specs.declared.bounds.Rule.{Rule}
 use Rattle.alg_check.specs.declared.bounds.Size.{Size}
-use Rattle.alg_check.specs.Bounds.{IsSize, IsSizeOf, IsSound, outcome_of, sized, norm_end, degree_end}
+use Rattle.alg_check.specs.Bounds.{IsSize, IsSizeOf, IsSound, Fits, sized, norm_end, degree_end}
 
 -- ---- numbers as far as a limit
 min_low : (m k : ℕ) → m ≤ k → min m k ≡ m
@@ -40,7 +41,7 @@ over_first k m (suc n) some h =
     let more : m * 1 ≤ m * suc n = mul-le m 1 m (suc n) (omega arith) (omega arith) in
     min_high (k * min (suc n) k) k (omega (arith, low)) ∙ sym (min_high (m * suc n) k (omega (arith, more, h)))
 
-capped_times : (k m n : ℕ) → 0 < k → min (min m k * min n k) k ≡ min (m * n) k
+pub capped_times : (k m n : ℕ) → 0 < k → min (min m k * min n k) k ≡ min (m * n) k
 capped_times k m n some =
     elim (nat_lt m k) as (λ b. nat_lt m k ≡ b → min (min m k * min n k) k ≡ min (m * n) k) [
       | true ↦ λ e.
@@ -60,7 +61,7 @@ capped_times k m n some =
           ap (λ x. min (x * min n k) k) (min_high m k high) ∙ over_first k m n some high
     ] refl
 
-capped_plus : (k m n : ℕ) → min (min m k + min n k) k ≡ min (m + n) k
+pub capped_plus : (k m n : ℕ) → min (min m k + min n k) k ≡ min (m + n) k
 capped_plus k m n = omega arith
 
 -- the size of a product of two
@@ -190,12 +191,6 @@ module _ (p : Polynomial) (qs : List Polynomial) (s : Size) (size : IsSizeOf (p 
       nothing_each [] qs h = first_nothing [] qs refl
       nothing_each (t ∷ p) qs h = some_nothing (t ∷ p) qs h
 
-  -- the rule that it breaks is the product's
-  pub rule_product : (rule : Rule) → ((n d : ℕ) → IsSize n d s → outcome_of rule ≡ sized n d) →
-      product_outcome (p ∷ qs) ≡ outcome_of rule
-  rule_product rule tells =
-      sym (tells (norm_product (p ∷ qs)) (sum_by poly_degree (p ∷ qs)) size.0 ∙ product_sized (p ∷ qs) size.1)
-
   -- it is within the limits
   pub fine_bounds : (s.norm ≡ 0 → ⊥) → product_outcome (p ∷ qs) ≡ Outcome.Fine →
       (0 < norm_product qs) × (norm p * norm_product qs ≤ MAX)
@@ -216,3 +211,10 @@ module _ (p : Polynomial) (qs : List Polynomial) (s : Size) (size : IsSizeOf (p 
       second : (a b : ℕ) → a * b ≢ 0 → 0 < b
       second a zero some = absurd (some (omega arith))
       second a (suc b) some = omega arith
+
+-- whether it is refused is the product's rule
+pub fits_product : (ps : List Polynomial) (s : Size) → IsSizeOf ps s → (r : Result (Unit {0}) Overrun) →
+    ((n d : ℕ) → IsSize n d s → Fits (sized n d) r) → Fits (product_outcome ps) r
+fits_product ps s size r tells =
+    subst (λ (o : Outcome). Fits o r) (product_sized ps size.1)
+    (tells (norm_product ps) (sum_by poly_degree ps) size.0)

@@ -1,16 +1,18 @@
 -- Bounds on products of polynomials.
 use Rattle.std.specs.Prelude.{◌≡◌, ℕ, zero, suc, ◌^◌, true, List, sum_by, min}
+use Rattle.std.specs.declared.result.Result.{Result}
+use Rattle.std.specs.declared.result.Result.TheVariants.{Ok, Err}
+use Rattle.alg_mono.specs.declared.ends.Overrun.{Overrun}
 use Rattle.alg_mono.specs.NumberedPolynomials.{Polynomial}
 use Rattle.alg_mono.specs.Outcomes.{Outcome, outcome, has_zero, norm_product}
 use Rattle.alg_mono.specs.Polynomials.{poly_degree}
-use Rattle.alg_check.specs.declared.bounds.Rule.{Rule}
+use Rattle.alg_mono.specs.Refusals.{Tells}
 use Rattle.alg_check.specs.declared.bounds.Size.{Size}
 
--- the outcome that a rule is
-abbrev pub outcome_of : Rule → Outcome
-outcome_of Rule.Fine = Outcome.Fine
-outcome_of Rule.Range = Outcome.Range
-outcome_of Rule.Degree = Outcome.Degree
+-- nothing is refused where no rule is broken, and else the broken rule is told
+abbrev pub Fits : Outcome → Result (Unit {0}) Overrun → Type 0
+Fits outcome (Ok _) = outcome ≡ Outcome.Fine
+Fits outcome (Err e) = Tells e outcome
 
 -- the least number over the limit on norms, and on degrees
 abbrev pub norm_end : ℕ

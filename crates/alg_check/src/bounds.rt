@@ -1,10 +1,9 @@
 //! Which rule a product breaks, found by bounds on its norm and its degree before it is made.
 
-ghost use Rattle.std.specs.Prelude.{◌≡◌, ◌+◌, ◌*◌, ◌∷◌, ◌++◌, [], ℕ, true, OnOk, IfErr, min};
-ghost use Rattle.alg_mono.specs.Outcomes.{Outcome, is_nothing, product_outcome};
+ghost use Rattle.std.specs.Prelude.{◌≡◌, ◌+◌, ◌*◌, ◌^◌, ◌∷◌, ◌++◌, ℕ, true, min};
+ghost use Rattle.alg_mono.specs.Outcomes.{is_nothing};
 ghost use Rattle.alg_mono.specs.Polynomials.{norm, poly_degree};
-ghost use Rattle.alg_mono.specs.Refusals.{Tells};
-ghost use Rattle.alg_check.specs.Bounds.{IsSize, IsSizeOf, outcome_of, sized, norm_end, degree_end};
+ghost use Rattle.alg_check.specs.Bounds.{IsSize, IsSizeOf, Fits, sized, norm_end, degree_end};
 
 use crate::Poly;
 use alg_mono::Overrun;
@@ -14,28 +13,6 @@ const NORM_END: u128 = 1 << 127;
 
 /// The least number over the limit on degrees.
 const DEGREE_END: u32 = 1001;
-
-/// Which rule is broken.
-#[derive(Clone, Copy, Debug, PartialEq, Eq)]
-pub(crate) enum Rule {
-    Fine,
-    /// The rule on norms.
-    Range,
-    /// The rule on degrees.
-    Degree,
-}
-
-/// Refused where a rule is broken.
-pub(crate) fn kept(rule: Rule) -> Result<(), Overrun>
-    ensures fine { OnOk result (outcome_of rule ≡ Outcome.Fine) }
-    ensures refused { IfErr result (λ e. Tells e (outcome_of rule)) }
-{
-    match rule {
-        Rule::Fine => Ok(()),
-        Rule::Range => Err(Overrun::Range),
-        Rule::Degree => Err(Overrun::Degree),
-    }
-}
 
 /// Bounds on a product: the norms of its factors multiplied, and their degrees added up. Where one is
 /// over its limit, it is the least number that is.
@@ -57,6 +34,23 @@ fn plus_degree(a: u32, b: u32) -> u32
     ensures { result ≡ min (a + b) degree_end }
 {
     a.saturating_add(b).min(DEGREE_END)
+}
+
+/// A power of a norm, as far as the limit.
+fn power_norm(a: u128, k: u32) -> u128
+    ensures { result ≡ min (a ^ k) norm_end }
+{
+    match a.checked_pow(k) {
+        Some(power) => power.min(NORM_END),
+        None => NORM_END,
+    }
+}
+
+/// A degree so many times, as far as the limit.
+fn times_degree(k: u32, a: u32) -> u32
+    ensures { result ≡ min (k * a) degree_end }
+{
+    k.saturating_mul(a).min(DEGREE_END)
 }
 
 impl Size {
@@ -83,17 +77,27 @@ impl Size {
         }
     }
 
-    /// The rule that it breaks: a product with a factor 0 breaks none.
-    pub(crate) fn rule(self) -> Rule
-        ensures { (n d : ℕ) → IsSize n d self → outcome_of result ≡ sized n d }
+    /// That of a power.
+    pub(crate) fn power(self, k: u32) -> Size
+        ensures { (n d : ℕ) → IsSize n d self → IsSize (n ^ k) (k * d) result }
+    {
+        Size {
+            norm: power_norm(self.norm, k),
+            degree: times_degree(k, self.degree),
+        }
+    }
+
+    /// Refused where a rule is broken, the one on norms first; a product with a factor 0 breaks none.
+    pub(crate) fn fits(self) -> Result<(), Overrun>
+        ensures { (n d : ℕ) → IsSize n d self → Fits (sized n d) result }
     {
         if self.norm == NORM_END {
-            Rule::Range
-        } else if self.norm > 0 && self.degree == DEGREE_END {
-            Rule::Degree
-        } else {
-            Rule::Fine
+            return Err(Overrun::Range);
         }
+        if self.norm > 0 && self.degree == DEGREE_END {
+            return Err(Overrun::Degree);
+        }
+        Ok(())
     }
 }
 
@@ -113,4 +117,11 @@ pub(crate) fn size_over(first: &Poly, rest: &[Poly]) -> Size
     ensures { IsSizeOf (first.now ∷ rest.now) result }
 {
     Size::of(first).times(size_of(rest))
+}
+
+/// The size of the product of these and those.
+pub(crate) fn size_of_both(these: &[Poly], those: &[Poly]) -> Size
+    ensures { IsSizeOf (these.now ++ those.now) result }
+{
+    size_of(these).times(size_of(those))
 }

@@ -1,26 +1,29 @@
 //! The report on the answer to a goal.
 
-ghost use Rattle.std.specs.Prelude.{◌≡◌, ◌↔◌, ◌+◌, ◌<◌, ◌^◌, All, IfOk, IsTrue, length};
-ghost use Rattle.alg_terms.specs.GoalRules.{IsEquation, IsHyp, DividesNowhere};
-ghost use Rattle.alg_terms.specs.Members.{sort_at};
+ghost use Rattle.std.specs.Prelude.{◌≡◌, ◌↔◌, ◌+◌, ◌<◌, ◌^◌, All, IfOk, IfSome, IsTrue, length};
+ghost use Rattle.std.specs.Option.{option_copied};
+ghost use Rattle.alg_terms.specs.GoalRules.{IsEquation, IsGoal, IsHyp, DividesNowhere};
+ghost use Rattle.alg_terms.specs.Members.{goal_at, uses_of};
+ghost use Rattle.alg_terms.specs.Valid.{IsValid};
 ghost use Rattle.alg_lines.specs.Constants.{constants};
-ghost use Rattle.alg_reify.specs.Answers.{IsRingAnswer};
+ghost use Rattle.alg_reify.specs.Answers.{IsRingAnswer, IsFieldAnswer};
 ghost use Rattle.alg_check.specs.Answers.{HasNoCertificate};
 ghost use Rattle.alg_lines.specs.Accepting.{Acceptance};
-ghost use Rattle.alg_check.specs.Reports.{Compares, IsCertReport, IsFew, IsNsatzReport, Judged, Judges, StopReport};
+ghost use Rattle.alg_check.specs.Reports.{Compares, IsCertReport, IsFew, IsNsatzReport, IsReport, IsReportBy, Judged, Judges, StopReport};
 
 use crate::certificate::{CertAnswer, check_cert};
 use crate::comparing::same_answer;
+use crate::field::field_answer;
 use crate::preparing::{Prepared, prepare};
 use crate::ring::ring_answer;
 use crate::{Cert, NoMemory, Overrun};
 use alg_lines::{Answer, GoalCheck, constants_of};
-use alg_reify::Stop;
-use alg_terms::{Equation, File, Use};
+use alg_reify::{Stop, has_char0};
+use alg_terms::{Equation, File, Goal, Method, Use};
 use std::alloc::Global;
 
 /// The report on an answer, by the goal's own.
-fn report(own: &Answer, given: &Answer) -> GoalCheck
+pub(crate) fn report(own: &Answer, given: &Answer) -> GoalCheck
     requires { HasNoCertificate own.now }
     ensures { Compares (given.now ≡ own.now) given.now result }
 {
@@ -30,16 +33,6 @@ fn report(own: &Answer, given: &Answer) -> GoalCheck
     match given {
         Answer::Proved { .. } => GoalCheck::OkProved,
         _ => GoalCheck::OkOther,
-    }
-}
-
-/// Whether a sort of the file is declared of characteristic 0.
-pub(crate) fn has_char0(file: &File, sort: u32) -> bool
-    ensures { result ≡ (sort_at file.now sort).char0 }
-{
-    match file.sorts.items().get(sort as usize) {
-        Some(sort) => sort.char0,
-        None => false,
     }
 }
 
@@ -67,7 +60,7 @@ fn constants_report(
 }
 
 /// The report on a certificate, tried on what was prepared.
-fn cert_report(
+pub(crate) fn cert_report(
     alloc: Global,
     prepared: &Prepared,
     numbers: &[i128],
@@ -88,7 +81,7 @@ fn cert_report(
 }
 
 /// The report where nothing could be prepared.
-fn stop_report(stop: Stop) -> Result<GoalCheck, NoMemory>
+pub(crate) fn stop_report(stop: Stop) -> Result<GoalCheck, NoMemory>
     ensures { IfOk result (StopReport stop) }
 {
     match stop {
@@ -165,5 +158,63 @@ fn check_by_nsatz(
             check_certified(alloc, file, equation, uses, power, constants.items(), cert)
         }
         _ => Ok(GoalCheck::Unchecked),
+    }
+}
+
+/// The report on an answer to an equation by field.
+fn check_by_field(
+    alloc: Global,
+    file: &File,
+    equation: &Equation,
+    answer: &Answer,
+) -> Result<GoalCheck, NoMemory>
+    requires { IsEquation file.now equation.now }
+    ensures { IfOk result (Compares (IsFieldAnswer file.now equation.now answer.now) answer.now) }
+{
+    let own = field_answer(alloc, file, equation)?;
+    Ok(report(&own, answer))
+}
+
+/// The report on an answer to a goal of the file.
+fn check_answer(
+    alloc: Global,
+    file: &File,
+    goal: &Goal,
+    answer: &Answer,
+) -> Result<GoalCheck, NoMemory>
+    requires hyps { All (IsHyp file.now) file.now.hyps }
+    requires goal { IsGoal file.now goal.now }
+    requires few { IsFew (uses_of goal.now.method) answer.now }
+    ensures { IfOk result (IsReportBy file.now goal.now.equation goal.now.method answer.now) }
+{
+    match &goal.method {
+        Method::ByRing => check_by_ring(alloc, file, &goal.equation, answer),
+        Method::ByField => check_by_field(alloc, file, &goal.equation, answer),
+        Method::ByNsatz {
+            uses,
+            power,
+            limit: _,
+        } => check_by_nsatz(alloc, file, &goal.equation, uses.items(), *power, answer),
+    }
+}
+
+/// The report on the answer to a goal of a valid file, by its number, or on its having none.
+///
+/// Goals by ring and by field are decided anew, by plain polynomials; a certificate is tried on the
+/// polynomials that are prepared for it anew. Nothing of what finds answers is used.
+pub fn check_goal(
+    alloc: Global,
+    file: &File,
+    goal: u32,
+    answer: Option<&Answer>,
+) -> Result<GoalCheck, NoMemory>
+    requires valid { IsValid file.now }
+    requires there { goal < length file.now.goals }
+    requires few { IfSome answer (λ a. IsFew (uses_of (goal_at file.now goal).method) a.now) }
+    ensures { IfOk result (IsReport file.now (goal_at file.now goal) (option_copied answer.entry)) }
+{
+    match answer {
+        Some(answer) => check_answer(alloc, file, &file.goals.items()[goal as usize], answer),
+        None => Ok(GoalCheck::Unchecked),
     }
 }

@@ -6,10 +6,14 @@ ghost use Rattle.alg_mono.specs.NumberedPolynomials.{product_of};
 ghost use Rattle.alg_mono.specs.Outcomes.{Outcome, norm_product, product_outcome};
 ghost use Rattle.alg_mono.specs.Polynomials.{MAX, norm, poly_degree};
 ghost use Rattle.alg_mono.specs.Refusals.{Tells};
+ghost use Rattle.alg_meaning.specs.FractionRules.{over_outcome};
+ghost use Rattle.alg_reify.specs.FactorMaps.{product};
+ghost use Rattle.alg_reify.specs.Making.{Gives};
 ghost use Rattle.alg_reify.specs.Preparing.{times_each};
+ghost use Rattle.alg_check.specs.Factors.{as_map};
 
 use crate::Poly;
-use crate::bounds::{Rule, size_over};
+use crate::bounds::size_over;
 use alg_mono::{NoMemory, Overrun};
 use std::alloc::Global;
 
@@ -51,9 +55,18 @@ pub(crate) fn product(alloc: Global, first: Poly, rest: &[Poly]) -> Result<Poly,
     if size.norm == 0 {
         return Ok(Poly::zero(alloc));
     }
-    match size.rule() {
-        Rule::Fine => Ok(times_all(alloc, first, rest)?),
-        Rule::Range => Err(Overrun::Range),
-        Rule::Degree => Err(Overrun::Degree),
+    match size.fits() {
+        Ok(()) => Ok(times_all(alloc, first, rest)?),
+        Err(end) => Err(end),
     }
+}
+
+/// A polynomial times factors, made as one product.
+pub(crate) fn over(alloc: Global, top: Poly, factors: &[Poly]) -> Result<Poly, Overrun>
+    ensures { Gives (λ q. q) (product_of top (product (as_map factors.now)))
+        (over_outcome top (as_map factors.now)) result }
+{
+    // Its contract says that the terms are those of a polynomial.
+    top.terms();
+    product(alloc, top, factors)
 }

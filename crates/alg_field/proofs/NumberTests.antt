@@ -23,8 +23,8 @@ use Rattle.alg_horner.proofs.Unique.{same_map}
 use Rattle.alg_reify.proofs.Coefficients.{passes, only_equal}
 use Rattle.alg_reify.proofs.Once.{same_test}
 use Rattle.alg_field.specs.Constants.{IsNumber}
-use Rattle.alg_field.specs.Factors.{order}
-use Rattle.alg_field.proofs.Order.{order_total, order_anti}
+use Rattle.alg_reify.specs.FactorMaps.{order}
+use Rattle.alg_reify.proofs.FactorOrder.{order_total, order_anti}
 
 -- the tree of a number
 number_tree : (h : Horner) (n : ℤ) → form_of h ≡ Form.Const n → h ≡ Const n

@@ -39,3 +39,13 @@ pub mod ProductRules
 pub mod NormsSome
 pub mod PreparedStops
 pub mod RingSides
+pub mod EachOnce
+pub mod Giving
+pub mod Operations
+pub mod FractionLeaves
+pub mod FractionParts
+pub mod FractionMade
+pub mod FactorOrder
+pub mod FactorLists
+pub mod FieldSides
+pub mod UnitPolynomials
