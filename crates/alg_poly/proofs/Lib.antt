@@ -9,3 +9,4 @@ pub mod DifferenceTurns
 pub mod Contents
 pub mod Cancelled
 pub mod Powers
+pub mod Moves

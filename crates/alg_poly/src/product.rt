@@ -11,9 +11,10 @@ ghost use Rattle.alg_mono.specs.Refusals.{Tells};
 ghost use Rattle.alg_mono.specs.NumberedPolynomials.{row_of, product_of, power_of, multiple_of};
 
 use crate::NoMemory;
+use crate::merge::merge_moved;
 use crate::poly::{GREATEST_DEGREE, GREATEST_NORM, Poly};
 use crate::terms::norm_of;
-use alg_mono::terms::{Term, merge};
+use alg_mono::terms::Term;
 use alg_mono::{Mono, MonoEnd, Overrun};
 use std::alloc::Global;
 
@@ -72,11 +73,11 @@ fn multiply(alloc: Global, a: &[Term], b: &[Term]) -> Result<Vec<Term>, NoMemory
     let (front, back) = a.split_at(a.len() / 2);
     let front = multiply(alloc, front, b)?;
     let back = multiply(alloc, back, b)?;
-    merge(alloc, &front, &back)
+    merge_moved(alloc, front, back)
 }
 
 /// The power of a list of terms: of one term by squaring, else by products with the list. Of the
-/// others no more than 127 factors keep the limit on norms.
+/// others no more than 126 factors keep the limit on norms.
 fn raise(alloc: Global, terms: &[Term], n: u32) -> Result<Vec<Term>, NoMemory>
     requires sound { IsPolynomial nat_cmp integers terms.now }
     requires norms { norm terms.now ^ n ≤ MAX }
