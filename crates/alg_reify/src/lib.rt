@@ -8,16 +8,16 @@
 #![tactic(auto)]
 
 mod atoms;
-mod goal_table;
 pub mod laws;
 mod making;
 mod stop;
+mod tables;
 #[cfg(test)]
 mod tests;
 
 pub use alg_poly::{Mono, Overrun, Poly};
 pub use alg_terms::NoMemory;
 pub use atoms::{Atoms, AtomsEnd, atoms_of};
-pub use goal_table::goal_table;
 pub use making::{make_atom, reify};
 pub use stop::Stop;
+pub use tables::goal_table;
