@@ -1,5 +1,5 @@
 -- What stands behind a goal or among lines and steps is told by its first word.
-use Rattle.std.proofs.Common.{◌≡◌, ◌==◌, ◌||◌, true, false, ℕ, List, inl, inr, refl, subst, sym, ◌∙◌, arith, Result}
+use Rattle.std.proofs.Common.{◌≡◌, ◌==◌, false, ℕ, List, inl, inr, refl, subst, ◌∙◌, arith, Result}
 use Rattle.std.proofs.lemmas.Bool.Decides.{nat_tests}
 use Rattle.alg_tokens.specs.declared.token.Token.{Token}
 use Rattle.alg_tokens.specs.declared.token.TokenKind.TheVariants as kinds

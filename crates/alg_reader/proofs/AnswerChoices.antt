@@ -1,5 +1,5 @@
 -- What may stand between the parts of answers, of lines and of steps.
-use Rattle.std.proofs.Common.{◌≡◌, ℕ, ◌||◌, Bool, true, false, ◌⊎◌, inl, inr, refl, subst, arith, pos, eqb-true}
+use Rattle.std.proofs.Common.{◌≡◌, ℕ, ◌||◌, true, false, inl, inr, refl, subst, arith, eqb-true}
 use Rattle.alg_tokens.specs.declared.token.TokenKind.TheVariants as kinds
 use Rattle.alg_tokens.specs.declared.token.Word.{Word}
 use Rattle.alg_tokens.specs.declared.token.Word.TheVariants as words
@@ -11,8 +11,8 @@ use Rattle.alg_reader.specs.declared.place.Place.TheVariants as places
 use Rattle.alg_reader.specs.Kinds.{variant}
 use Rattle.alg_reader.specs.Forms as rules
 use Rattle.alg_reader.specs.Forms.{Form, a, seq, alt, opt, many, rule}
-use Rattle.alg_reader.specs.Grammar.{body, cofactor, constants, divisor, number, option, said_at, separated, sign, step_or, unit, word, zero}
-use Rattle.alg_reader.specs.Ahead.{nullable, begins, goes_on, is_word, rule_begins, rule_goes_on}
+use Rattle.alg_reader.specs.Grammar.{body, cofactor, constants, number, option, said_at, sign, step_or, unit, word, zero}
+use Rattle.alg_reader.specs.Ahead.{begins, goes_on, is_word, rule_begins, rule_goes_on}
 use Rattle.alg_reader.proofs.Ahead.{Disjoint}
 use Rattle.alg_reader.proofs.OneToken.{or_cases}
 

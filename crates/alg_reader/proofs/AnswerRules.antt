@@ -1,19 +1,16 @@
 -- What the rules of answers make of what their parts mean.
-use Rattle.std.proofs.Common.{◌≡◌, ℕ, List, [], ◌∷◌, inl, inr, All, refl, ap, sym, ◌∙◌, subst, arith}
+use Rattle.std.proofs.Common.{◌≡◌, ℕ, List, [], ◌∷◌, inl, inr, refl, ap, sym, ◌∙◌, subst}
 use Rattle.std.specs.List.{AllByRecursion}
 use Rattle.alg_tokens.specs.declared.token.Token.{Token}
 use Rattle.alg_tokens.specs.declared.token.TokenKind.{TokenKind}
 use Rattle.alg_tokens.specs.declared.token.TokenKind.TheVariants as kinds
 use Rattle.alg_tokens.specs.declared.token.Sign.TheVariants as signs
 use Rattle.alg_tokens.specs.declared.token.Word.TheVariants as words
-use Rattle.alg_reader.specs.declared.raw.RawAnswer.{RawAnswer}
 use Rattle.alg_reader.specs.declared.raw.RawAnswer.TheVariants as answers
-use Rattle.alg_reader.specs.declared.raw.RawNumber.{RawNumber}
-use Rattle.alg_reader.specs.declared.raw.RawTerm.{RawTerm}
 use Rattle.alg_reader.specs.Forms as rules
 use Rattle.alg_reader.specs.Forms.{rule}
 use Rattle.alg_reader.specs.Grammar.{grammar, constants}
-use Rattle.alg_reader.specs.TermMeaning.{Value, one, two, nothing, term, mono, int, answer}
+use Rattle.alg_reader.specs.TermMeaning.{Value, one, two, term, mono, int}
 use Rattle.alg_reader.specs.AnswerMeaning.{after, term_in, numeral_in, act_condition, act_constant, act_conditional, constants_of, act_certified, act_proved, act_no, act_zero_denominator, act_none_up_to, act_gave_up, stopped_word, act_stopped}
 use Rattle.alg_reader.specs.PartMeaning.{option_of}
 use Rattle.alg_reader.specs.RawNodes.{numeral_of}

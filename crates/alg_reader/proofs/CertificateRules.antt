@@ -1,5 +1,5 @@
 -- What the rules of lines and steps make of what their parts mean.
-use Rattle.std.proofs.Common.{◌≡◌, ℕ, List, [], ◌∷◌, inl, inr, Option, Some, None, IfSome, unwrap_or, refl, ap, sym, ◌∙◌, subst, arith, pos}
+use Rattle.std.proofs.Common.{ℕ, List, [], inl, inr, Option, Some, None, IfSome, unwrap_or, refl, ap, sym, ◌∙◌, subst, arith}
 use Rattle.std.proofs.lemmas.Int.{ints}
 use Rattle.alg_tokens.specs.declared.token.Token.{Token}
 use Rattle.alg_tokens.specs.declared.token.TokenKind.TheVariants as kinds
@@ -12,7 +12,7 @@ use Rattle.alg_reader.specs.declared.raw.RawMono.{RawMono}
 use Rattle.alg_reader.specs.declared.raw.RawNumber.{RawNumber}
 use Rattle.alg_reader.specs.Forms as rules
 use Rattle.alg_reader.specs.Grammar.{grammar, cofactor, divisor}
-use Rattle.alg_reader.specs.TermMeaning.{Value, one, two, nothing, mono, int, combined}
+use Rattle.alg_reader.specs.TermMeaning.{Value, one, two, mono, int}
 use Rattle.alg_reader.specs.AnswerMeaning.{cofactor_of, act_combined, act_line, act_step}
 use Rattle.alg_reader.specs.PartMeaning.{option_of}
 use Rattle.alg_reader.specs.RawMonos.{mono_one, number_one}

@@ -2,7 +2,6 @@
 use Rattle.std.proofs.Common.{◌≡◌, ◌≤◌, ◌+◌, ℕ, zero, suc, ◌⊎◌, true, false, List, [], ◌∷◌, ◌++◌, length, IfSome, arith}
 use Rattle.std.specs.List.{All, AllByRecursion}
 use Rattle.alg_tokens.specs.declared.token.Token.{Token}
-use Rattle.alg_terms.specs.Limits.{MAX_LITERAL}
 use Rattle.alg_terms.specs.Kinds.{IsDomain}
 use Rattle.alg_reader.specs.declared.certificates.Combined.{Combined}
 use Rattle.alg_reader.specs.declared.place.Place.{Place}

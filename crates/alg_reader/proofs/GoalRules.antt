@@ -1,20 +1,19 @@
 -- What the rules of methods, goals and statements make of what their parts mean.
-use Rattle.std.proofs.Common.{◌≡◌, ℕ, inl, inr, List, ◌++◌, length, refl, ap, sym, ◌∙◌, subst, arith, length-append}
+use Rattle.std.proofs.Common.{ℕ, inl, inr, List, ◌++◌, length, refl, ap, sym, ◌∙◌, subst, arith, length-append}
 use Rattle.alg_tokens.specs.declared.token.Token.{Token}
 use Rattle.alg_tokens.specs.declared.token.TokenKind.{TokenKind}
 use Rattle.alg_tokens.specs.declared.token.TokenKind.TheVariants as kinds
 use Rattle.alg_tokens.specs.declared.token.Word.TheVariants as words
-use Rattle.alg_reader.specs.declared.raw.RawKind.{RawKind}
 use Rattle.alg_reader.specs.declared.raw.RawKind.TheVariants as raws
 use Rattle.alg_reader.specs.Forms as rules
 use Rattle.alg_reader.specs.Forms.{Rule, Form, a, seq, alt, opt, many, rule, Tree, token, pair, left, right, none, some, end, more, node, spelled}
-use Rattle.alg_reader.specs.Grammar.{grammar, name, sign, body}
+use Rattle.alg_reader.specs.Grammar.{grammar, sign}
 use Rattle.alg_reader.specs.TermMeaning.{Value}
 use Rattle.alg_reader.specs.TermMeaning.{one, two, term}
 use Rattle.alg_reader.specs.Meaning.{value, act}
 use Rattle.alg_reader.specs.PartMeaning.{sides, method_word, nsatz_of}
 use Rattle.alg_reader.specs.WellRead.{IsWellMethod}
-use Rattle.alg_reader.proofs.Found.{IsSpelledKind, KindFound, RuleFound, Found}
+use Rattle.alg_reader.proofs.Found.{KindFound, RuleFound, Found}
 use Rattle.alg_reader.proofs.Rules.{equal_words, no_uses}
 use Rattle.alg_reader.proofs.UseRules.{options_found}
 

@@ -1,5 +1,5 @@
 -- What the rules of monomials and of integers make of what their parts mean.
-use Rattle.std.proofs.Common.{◌≡◌, ℕ, List, [], ◌∷◌, ◌++◌, inl, inr, refl, ap, sym, ◌∙◌, subst, arith, ℤ, pos, negsuc, ◌≤ℤ◌}
+use Rattle.std.proofs.Common.{ℕ, List, [], ◌∷◌, inl, inr, refl, ap, sym, ◌∙◌, subst, arith, ℤ, pos, negsuc, ◌≤ℤ◌}
 use Rattle.std.specs.List.{AllByRecursion}
 use Rattle.std.proofs.lemmas.Int.{ints}
 use Rattle.std.proofs.Math.IntN.{neg_ℤ}
@@ -12,12 +12,12 @@ use Rattle.alg_tokens.specs.declared.token.Sign.TheVariants as signs
 use Rattle.alg_reader.specs.Forms as rules
 use Rattle.alg_reader.specs.Forms.{Rule, seq, rule}
 use Rattle.alg_reader.specs.Grammar.{grammar, sign}
-use Rattle.alg_reader.specs.TermMeaning.{Value, one, two, nothing, factor, mono, int}
+use Rattle.alg_reader.specs.TermMeaning.{Value, one, two, factor}
 use Rattle.alg_reader.specs.AnswerMeaning.{after, factor_in, act_atom, act_factor, act_factors, act_mono, act_int}
 use Rattle.alg_reader.specs.PartMeaning.{option_of}
 use Rattle.alg_reader.specs.RawMonos.{start_of, mono_of, mono_one, plain_factor, image_factor, raised_factor, opposite_of}
 use Rattle.alg_reader.specs.RawNodes.{number_of, numeral_of}
-use Rattle.alg_reader.specs.WellRead.{IsInRange, IsNumeral, IsInteger, IsWellMono}
+use Rattle.alg_reader.specs.WellRead.{IsInRange, IsNumeral, IsInteger}
 use Rattle.alg_reader.proofs.Found.{all_append, row, EachOf, IsWellFactor, FactorFound, MonoFound, RuleFound, Found}
 use Rattle.alg_reader.proofs.Monos.{factors_well, plain_well, image_well, raised_well}
 use Rattle.alg_reader.proofs.Nodes.{name_at, number_at}

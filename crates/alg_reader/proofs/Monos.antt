@@ -1,14 +1,14 @@
 -- What folds over monomials give at those that tokens give, and what holds of them.
-use Rattle.std.proofs.Common.{◌≡◌, ℕ, List, [], ◌∷◌, ◌++◌, flat_map, map, Option, Some, None, IfSome, refl, ap, sym, ◌∙◌, subst}
+use Rattle.std.proofs.Common.{◌≡◌, ℕ, List, [], ◌∷◌, ◌++◌, flat_map, map, Option, Some, None, IfSome, ap, sym, ◌∙◌, subst}
 use Rattle.std.specs.List.{AllByRecursion}
 use Rattle.std.specs.Option.{option_map_or}
 use Rattle.alg_tokens.specs.declared.token.Token.{Token}
-use Rattle.alg_reader.specs.declared.raw.RawFactor.{RawFactor, roll-RawFactor, out-RawFactor, roll-out-RawFactor, fold-roll-RawFactor}
+use Rattle.alg_reader.specs.declared.raw.RawFactor.{RawFactor, out-RawFactor, roll-out-RawFactor, fold-roll-RawFactor}
 use Rattle.alg_reader.specs.declared.raw.RawFactor.TheOpen.{RawFactor-F, RawMono-F}
 use Rattle.alg_reader.specs.declared.raw.RawMono.{RawMono, fold-roll-RawMono}
 use Rattle.alg_reader.specs.declared.raw.RawNumber.{RawNumber}
 use Rattle.alg_reader.specs.declared.raw.Span.{Span}
-use Rattle.alg_reader.specs.RawMonos.{factor_of, mono_of, mono_one, start_of, plain_factor, image_factor, raised_factor, fold_mono, fold_factor, joined, names_of_factor, exponents_of_factor, names_in_mono, names_in_factor, exponents_in_mono, exponents_in_factor}
+use Rattle.alg_reader.specs.RawMonos.{factor_of, mono_of, start_of, plain_factor, image_factor, raised_factor, fold_mono, fold_factor, joined, names_of_factor, exponents_of_factor, names_in_mono, names_in_factor, exponents_in_mono, exponents_in_factor}
 use Rattle.alg_reader.specs.RawNodes.{span_of}
 use Rattle.alg_reader.specs.WellRead.{IsNameAt, IsNumeral, IsWellMono}
 use Rattle.alg_reader.proofs.Found.{all_append, all_split, all_of, IsWellFactor}

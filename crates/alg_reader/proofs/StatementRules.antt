@@ -1,5 +1,5 @@
 -- What the rule of statements makes of what its parts mean.
-use Rattle.std.proofs.Common.{◌≡◌, ℕ, inl, inr, List, ◌++◌, length, length-append, refl, ap, sym, ◌∙◌, subst, arith}
+use Rattle.std.proofs.Common.{◌≡◌, ℕ, inl, inr, List, ◌++◌, length, length-append, ap, sym, ◌∙◌, subst, arith}
 use Rattle.alg_tokens.specs.declared.token.Token.{Token}
 use Rattle.alg_reader.specs.declared.format.Format.{Format}
 use Rattle.alg_reader.specs.declared.format.Format.TheVariants as formats

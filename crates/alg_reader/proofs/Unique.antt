@@ -1,5 +1,5 @@
 -- The grammar is unambiguous.
-use Rattle.std.proofs.Common.{◌≡◌, false, List, [], ◌++◌, refl, sym, ◌∙◌, subst, append_assoc, append-nil}
+use Rattle.std.proofs.Common.{◌≡◌, List, [], ◌++◌, refl, sym, ◌∙◌, subst, append_assoc, append-nil}
 use Rattle.alg_tokens.specs.declared.token.Token.{Token}
 use Rattle.alg_reader.specs.Forms.{Rule, Form, a, seq, alt, opt, many, rule, Tree, token, pair, left, right, none, some, end, more, node, spelled}
 use Rattle.alg_reader.specs.Grammar.{grammar, Fits}

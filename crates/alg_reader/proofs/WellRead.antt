@@ -1,12 +1,12 @@
 -- What was read is well read.
-use Rattle.std.proofs.Common.{◌≡◌, ◌≤◌, ℕ, nat_lt, inl, inr, true, false, cond, List, map, [], ◌∷◌, length, refl, ap, sym, ◌∙◌, subst, arith, None, pos, ◌≤ℤ◌}
+use Rattle.std.proofs.Common.{◌≡◌, ◌≤◌, ℕ, nat_lt, inl, inr, true, false, cond, List, map, [], ◌∷◌, length, refl, ap, sym, ◌∙◌, subst, arith, None, pos}
 use Rattle.std.specs.List.{AllByRecursion}
 use Rattle.std.specs.Str.{IsUtf8, IsCharBoundary}
 use Rattle.std.proofs.lemmas.Bool.Decides.{nat_tests}
 use Rattle.std.proofs.lemmas.Int.{ints}
 use Rattle.std.proofs.lemmas.Str.{IsUtf8-drop, IsCharBoundary-end}
 use Rattle.alg_tokens.specs.declared.token.Token.{Token}
-use Rattle.alg_terms.specs.Limits.{MAX_LITERAL, MAX_DEPTH}
+use Rattle.alg_terms.specs.Limits.{MAX_DEPTH}
 use Rattle.alg_reader.specs.declared.raw.RawNode.TheVariants.{Int}
 use Rattle.alg_reader.specs.declared.raw.RawTerm.{RawTerm}
 use Rattle.alg_reader.specs.declared.raw.RawAnswer.{RawAnswer}

@@ -1,17 +1,15 @@
 -- What the derivations of answers, of lines and of steps mean.
-use Rattle.std.specs.Prelude.{ℕ, List, [], ◌∷◌, ◌++◌, Option, None, Some, unwrap_or}
-use Rattle.alg_tokens.specs.declared.token.Token.{Token}
+use Rattle.std.specs.Prelude.{List, [], ◌∷◌, ◌++◌, Option, None, Some, unwrap_or}
 use Rattle.alg_tokens.specs.declared.token.TokenKind.{TokenKind}
 use Rattle.alg_tokens.specs.declared.token.TokenKind.TheVariants as kinds
 use Rattle.alg_tokens.specs.declared.token.Word.TheVariants as words
-use Rattle.alg_reader.specs.declared.certificates.Combined.{Combined}
 use Rattle.alg_reader.specs.declared.raw.RawAnswer.{RawAnswer}
 use Rattle.alg_reader.specs.declared.raw.RawAnswer.TheVariants as answers
 use Rattle.alg_reader.specs.declared.raw.RawFactor.{RawFactor}
 use Rattle.alg_reader.specs.declared.raw.RawMono.{RawMono}
 use Rattle.alg_reader.specs.declared.raw.RawNumber.{RawNumber}
 use Rattle.alg_reader.specs.declared.raw.RawTerm.{RawTerm}
-use Rattle.alg_reader.specs.RawMonos.{factor_of, image_factor, mono_of, mono_one, number_one, opposite_of, plain_factor, raised_factor, start_of}
+use Rattle.alg_reader.specs.RawMonos.{image_factor, mono_of, mono_one, number_one, opposite_of, plain_factor, raised_factor, start_of}
 use Rattle.alg_reader.specs.RawNodes.{numeral_of}
 use Rattle.alg_reader.specs.PartMeaning.{option_of}
 use Rattle.alg_reader.specs.TermMeaning.{Value, one, two, nothing, term, factor, mono, int, answer, combined, line, step}

@@ -1,12 +1,12 @@
 -- Monomials and the numbers of answers, as tokens give them.
-use Rattle.std.specs.Prelude.{ℕ, List, [], ◌∷◌, ◌++◌, flat_map, map, Option, None, Some, unwrap_or, pos}
+use Rattle.std.specs.Prelude.{ℕ, List, [], ◌∷◌, ◌++◌, flat_map, Option, None, Some, unwrap_or, pos}
 use Rattle.std.specs.Int.RustNames.{unsigned_abs}
 use Rattle.std.specs.Option.{option_map_or}
 use Rattle.std.proofs.Math.IntN.{neg_ℤ}
 use Rattle.alg_tokens.specs.declared.token.Token.{Token}
 use Rattle.alg_reader.specs.declared.raw.RawFactor.{RawFactor, out-RawFactor, roll-RawFactor, fold-RawFactor}
 use Rattle.alg_reader.specs.declared.raw.RawFactor.TheOpen.{RawFactor-F, RawMono-F}
-use Rattle.alg_reader.specs.declared.raw.RawMono.{RawMono, out-RawMono, roll-RawMono, fold-RawMono}
+use Rattle.alg_reader.specs.declared.raw.RawMono.{RawMono, roll-RawMono, fold-RawMono}
 use Rattle.alg_reader.specs.declared.raw.RawNumber.{RawNumber}
 use Rattle.alg_reader.specs.declared.raw.Span.{Span}
 use Rattle.alg_reader.specs.RawNodes.{number_of, span_of}

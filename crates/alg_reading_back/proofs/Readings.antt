@@ -8,7 +8,8 @@ use Rattle.alg_tokens.specs.Laws.{width, CutFromAnywhere}
 use Rattle.alg_reader.specs.declared.place.Place.TheVariants.{Plain}
 use Rattle.alg_reader.specs.declared.raw.RawKind.TheVariants as raws
 use Rattle.alg_reader.specs.Statements.{IsRead}
-use Rattle.alg_typing.specs.Reading.{ReadsFile, GoesOnWith, IsReadingOf}
+use Rattle.alg_typing.specs.Reading.{ReadsFile, file_way, IsReadingOf}
+use Rattle.alg_typing.specs.Ways.{GoesOnWith}
 use Rattle.alg_reading_back.specs.ReadingBack.{OpensFew, ReadsBack}
 use Rattle.alg_reading_back.proofs.ClosedFronts.{IsClosedBy, nothing_closed, closed_next}
 use Rattle.alg_reading_back.proofs.FilesBack.{text, pieces_of, begin, place, raw_of, taken_there, passed_there, next_place, faultless, whole_front, empty_front}
@@ -65,9 +66,9 @@ module _ (law : CutFromAnywhere) (file : File) (valid : IsValid file) (few : Ope
       let further = before ++ s ∷ [] in
       let (raws, more) = reads_on after further (split ∙ sym (append_assoc before (s ∷ []) after))
       (closed_next file valid before after s split is closed) in
-      let behind = subst (λ at. GoesOnWith bytes at (front file further) raws (Ok file))
+      let behind = subst (λ at. GoesOnWith (file_way bytes) bytes at (front file further) raws (Ok file))
       (next_place law file valid few before s) more in
-      let from = subst (λ g. GoesOnWith bytes raw.stop g raws (Ok file)) (sym taken.extends) behind in (
+      let from = subst (λ g. GoesOnWith (file_way bytes) bytes raw.stop g raws (Ok file)) (sym taken.extends) behind in (
         raw ∷ raws,
         (
           read_there before after s split,

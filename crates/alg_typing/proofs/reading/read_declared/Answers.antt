@@ -1,7 +1,7 @@
 use Rattle.std.proofs.Common.{refl, sym, subst, ◌≡◌, length}
 use Rattle.std.proofs.lemmas.Str.{IsCharBoundary-start}
 use Rattle.alg_terms.specs.declared.file.File.{File}
-use Rattle.alg_typing.specs.Reading.{ReadsFile, no_statements}
+use Rattle.alg_typing.specs.Reading.{ReadsFile, file_way, no_statements}
 use Rattle.alg_typing.proofs.FirstFaults.{error_tells_nothing}
 use Rattle.alg_typing.proofs.ReadingSteps.{smaller, decides_still, ends_here, told_reading, told_fault, passed_on}
 use Rattle.alg_typing.proofs.RoomForStatements.{HasAtMost, none_at_first, has_room, still_few, goes_on}
@@ -29,7 +29,7 @@ returns-in_err-raw-clause-ok c = error_tells_nothing _ _ c.from_residual.result 
 pub returns-in_err-raw-clause-refused : goal.returns-in_err-raw-clause-refused
 returns-in_err-raw-clause-refused c =
     passed_on _ c.from_residual.result _ c.from_residual.ensures.1
-    (told_reading c.args.text.now no_statements c.statements.at c.statements.declared _
+    (told_reading (file_way c.args.text.now) c.args.text.now no_statements c.statements.at c.statements.declared _
     c.statements.invariant.decides c.in_err-raw.ensures.read)
 
 -- the text ends
@@ -38,7 +38,7 @@ same-declared c = refl
 
 pub returns-in-End-clause-ok : goal.returns-in-End-clause-ok
 returns-in-End-clause-ok c =
-    ends_here c.args.text.now no_statements c.statements.at c.statements.declared c.in_ok-raw.raw
+    ends_here (file_way c.args.text.now) c.args.text.now no_statements c.statements.at c.statements.declared c.in_ok-raw.raw
     c.statements.invariant.decides c.in_ok-raw.ensures.read c.in-End.is
 
 -- a statement is added
@@ -75,7 +75,7 @@ statements-preserved c =
     let more = subst (λ (f : File). HasAtMost f raw.stop) (sym is)
     (still_few c.statements.declared text c.statements.at raw invariant.few well c.in_default.not-End c.requires) in
     record {
-      decides = decides_still text no_statements c.statements.at c.statements.declared c.add.new.self raw
+      decides = decides_still (file_way text) text no_statements c.statements.at c.statements.declared c.add.new.self raw
           invariant.decides c.in_ok-raw.ensures.read c.in_default.not-End c.in_ok-add.ensures.ok.0 is;
       boundary = well.stops;
       few = more;
@@ -86,6 +86,6 @@ pub returns-in_err-add : goal.returns-in_err-add
 returns-in_err-add c = record {
   ok = error_tells_nothing _ _ c.from_residual-in_err-add.result c.from_residual-in_err-add.ensures.1;
   refused = passed_on _ c.from_residual-in_err-add.result _ c.from_residual-in_err-add.ensures.1
-      (told_fault c.args.text.now no_statements c.statements.at c.statements.declared c.in_ok-raw.raw _
+      (told_fault (file_way c.args.text.now) c.args.text.now no_statements c.statements.at c.statements.declared c.in_ok-raw.raw _
       c.statements.invariant.decides c.in_ok-raw.ensures.read c.in_default.not-End c.in_err-add.ensures.refused);
 }

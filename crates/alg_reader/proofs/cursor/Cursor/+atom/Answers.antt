@@ -1,5 +1,4 @@
 -- A name, or a name before an atom in parentheses.
-use Rattle.std.proofs.Common.{refl}
 use Rattle.alg_tokens.specs.declared.token.TokenKind.TheVariants as kinds
 use Rattle.alg_tokens.specs.declared.token.Sign.TheVariants as signs
 use Rattle.alg_reader.specs.Forms as rules

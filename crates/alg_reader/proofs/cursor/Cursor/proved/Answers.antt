@@ -7,7 +7,7 @@ use Rattle.alg_tokens.specs.declared.token.Word.TheVariants as words
 use Rattle.alg_reader.specs.Kinds.{variant, code}
 use Rattle.alg_reader.specs.Forms as rules
 use Rattle.alg_reader.specs.Forms.{Form, alt, rule}
-use Rattle.alg_reader.specs.Grammar.{grammar, word}
+use Rattle.alg_reader.specs.Grammar.{grammar}
 use Rattle.alg_reader.specs.Meaning.{act}
 use Rattle.alg_reader.specs.Ahead.{begins, rule_begins, Starts, Lacks, StartsEither, LacksBoth}
 use Rattle.alg_reader.proofs.Ahead.{or_first, or_true}
