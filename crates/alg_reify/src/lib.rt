@@ -13,10 +13,10 @@ mod conditions;
 mod ends;
 mod fraction_form;
 mod fractions;
-mod goal_table;
 pub mod laws;
 mod making;
 mod stop;
+mod tables;
 #[cfg(test)]
 mod tests;
 
@@ -26,6 +26,6 @@ pub use atoms::{Atoms, AtomsEnd, atoms_of};
 pub use ends::FractionEnd;
 pub use fraction_form::FractionForm;
 pub use fractions::{has_char0, reify_sides};
-pub use goal_table::goal_table;
 pub use making::reify;
 pub use stop::Stop;
+pub use tables::goal_table;
