@@ -11,7 +11,7 @@ use Rattle.alg_reader.specs.declared.place.Place.TheVariants as places
 use Rattle.alg_reader.specs.Kinds.{variant}
 use Rattle.alg_reader.specs.Forms as rules
 use Rattle.alg_reader.specs.Forms.{Form, a, seq, alt, opt, many, rule}
-use Rattle.alg_reader.specs.Grammar.{body, cofactor, constants, number, option, said_at, sign, step_or, unit, word, zero}
+use Rattle.alg_reader.specs.Grammar.{body, cofactor, constants, divisor, number, option, said_at, sign, step_or, unit, word, zero}
 use Rattle.alg_reader.specs.Ahead.{begins, goes_on, is_word, rule_begins, rule_goes_on}
 use Rattle.alg_reader.proofs.Ahead.{Disjoint}
 use Rattle.alg_reader.proofs.OneToken.{or_cases}
@@ -26,7 +26,8 @@ pub atom_then_exponent : Disjoint (goes_on (rule rules.Atom)) (begins (option (k
 unfolding rule_goes_on
 atom_then_exponent n h h' = grind arith
 
-pub factor_then_star : Disjoint (goes_on (rule rules.Factor)) (begins (many (seq (sign signs.Star) (rule rules.Factor))))
+pub factor_then_star : Disjoint (goes_on (rule rules.Factor))
+    (begins (many (seq (sign signs.Star) (rule rules.Factor))))
 unfolding rule_goes_on
 factor_then_star n h h' = grind arith
 
@@ -84,9 +85,10 @@ pub conditional_apart : Disjoint (begins (rule rules.Conditional)) (begins (rule
 unfolding rule_begins
 conditional_apart n h h' = grind arith
 
-pub mono_then_colon : (f : Form) → Disjoint (goes_on (rule rules.Mono)) (begins (seq (sign signs.Colon) f))
+pub mono_then_colon : Disjoint (goes_on (rule rules.Mono)) (begins (seq (sign signs.Colon) (seq (rule rules.Int)
+    (seq (word words.And) (rule rules.Int)))))
 unfolding rule_goes_on
-mono_then_colon f n h h' = grind arith
+mono_then_colon n h h' = grind arith
 
 -- ---- lines and steps
 
@@ -98,10 +100,11 @@ pub factors_then_comma : Disjoint (goes_on (rule rules.Factors)) (begins (sign s
 unfolding rule_goes_on
 factors_then_comma n h h' = grind arith
 
-pub cofactor_then_number : (format : Format) (f : Form) → Disjoint (goes_on (cofactor format)) (begins (seq number f))
+pub cofactor_then_number : (format : Format) → Disjoint (goes_on (cofactor format)) (begins
+    (seq number (divisor format)))
 unfolding rule_begins
-cofactor_then_number formats.One f n h h' = grind arith
-cofactor_then_number formats.Two f n h h' = grind arith
+cofactor_then_number formats.One n h h' = grind arith
+cofactor_then_number formats.Two n h h' = grind arith
 
 pub cofactor_then_combined : (format : Format) → Disjoint (goes_on (cofactor format)) (begins
     (rule (rules.Combined format)))
@@ -132,9 +135,12 @@ but_none_up_to = alt (rule rules.NoneUpTo) but_gave_up
 abbrev pub but_zero : Form
 but_zero = alt (rule rules.ZeroDenominator) but_none_up_to
 
-pub proved_apart : Disjoint (begins (rule rules.Proved)) (begins (alt (rule rules.No) but_zero))
+abbrev pub but_proved : Form
+but_proved = alt (rule rules.No) but_zero
+
+pub proved_apart : Disjoint (begins (rule rules.Proved)) (begins but_proved)
 unfolding rule_begins
-proved_apart = word_apart words.Proved (alt (rule rules.No) but_zero) refl
+proved_apart = word_apart words.Proved but_proved refl
 
 pub no_apart : Disjoint (begins (rule rules.No)) (begins but_zero)
 unfolding rule_begins

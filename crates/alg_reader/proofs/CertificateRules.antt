@@ -19,9 +19,9 @@ use Rattle.alg_reader.specs.RawMonos.{mono_one, number_one}
 use Rattle.alg_reader.specs.RawNodes.{numeral_of}
 use Rattle.alg_reader.specs.WellRead.{IsNumeral, IsWellMono}
 use Rattle.alg_reader.proofs.Found.{CombinedFound, StandsFound, Found}
+use Rattle.alg_reader.proofs.FoundParts.{after_token, after_number, after_int}
 use Rattle.alg_reader.proofs.MonoRules.{numeral_well}
 use Rattle.alg_reader.proofs.Monos.{factors_well}
-use Rattle.alg_reader.proofs.Nodes.{number_at}
 use Rattle.alg_reader.proofs.UseRules.{option_found}
 
 cofactor_found : (text : List ℕ) (format : Format) (x : Value) (ts : List Token) → Found text (cofactor format) x ts
@@ -43,56 +43,22 @@ divisor_found text formats.Two x ts h = option_found text (kinds.Word words.Over
 pub combined_found : (text : List ℕ) (format : Format) (x : Value) (ts : List Token)
     → Found text (grammar (rules.Combined format)) x ts → CombinedFound text (act_combined x)
 unfolding grammar
-combined_found text format x ts (
-  y,
-  z,
-  us,
-  _,
-  e,
-  _,
-  h,
-  (
-    y1,
-    z1,
-    _,
-    _,
-    e1,
-    _,
-    (w, ew, _, _, _),
-    (
-      y2,
-      z2,
-      _,
-      _,
-      e2,
-      _,
-      (b, eb, hb),
-      (
-        y3,
-        z3,
-        _,
-        _,
-        e3,
-        _,
-        (c, ec, _, _, _),
-        (y4, z4, us4, _, e4, _, n, (y5, z5, us5, vs5, e5, _, j, d)),
-      ),
-    ),
-  ),
-) =
-    let (f, ef, range, _, _) = number_at text y us h in
-    let (i, ei, range', _, _) = number_at text y5 us5 j in
+combined_found text format x ts h =
+    let (f, _, _, e, hf, h1) = after_number h in
+    let (w, _, _, e1, h2) = after_token h1 in
+    let (b, _, _, e2, hb, h3) = after_int h2 in
+    let (c, _, _, e3, (y, z, us, vs, e4, _, n, h4)) = after_token h3 in
+    let (i, y', us', e5, hi, d) = after_number h4 in
     let P : Value → Type 0 = λ v. CombinedFound text (act_combined v) in
-    subst P (sym (e ∙ ap (λ v. two v z) ef ∙ ap (two (one f)) (e1 ∙ ap (λ v. two v z1) ew ∙ ap (two (one w))
-    (e2 ∙ ap (λ v. two v z2) eb ∙ ap (two (int b)) (e3 ∙ ap (λ v. two v z3) ec ∙ ap (two (one c))
-    (e4 ∙ ap (two y4) (e5 ∙ ap (λ v. two v z5) ei))))))) (
-      record { first = numeral_of f; b = b; n = cofactor_of y4; j = numeral_of i; d = option_of z5 },
+    subst P (sym (e ∙ ap (two (one f)) (e1 ∙ ap (two (one w)) (e2 ∙ ap (two (int b)) (e3 ∙ ap (two (one c))
+    (e4 ∙ ap (two y) e5)))))) (
+      record { first = numeral_of f; b = b; n = cofactor_of y; j = numeral_of i; d = option_of y' },
       refl,
-      numeral_well f range,
+      numeral_well f hf,
       hb,
-      cofactor_found text format y4 us4 n,
-      numeral_well i range',
-      divisor_found text format z5 vs5 d,
+      cofactor_found text format y us n,
+      numeral_well i hi,
+      divisor_found text format y' us' d,
     )
 
 -- what is left out is 1
@@ -108,45 +74,19 @@ or_number_one (Some n) start h = h
 pub line_found : (text : List ℕ) (format : Format) (x : Value) (ts : List Token)
     → Found text (grammar (rules.Line format)) x ts → StandsFound places.Lines text (act_line x) ts
 unfolding grammar
-line_found text format x ts (
-  y,
-  z,
-  _,
-  _,
-  e,
-  _,
-  (w, ew, _, _, _),
-  (
-    y1,
-    z1,
-    us1,
-    _,
-    e1,
-    _,
-    h,
-    (
-      y2,
-      z2,
-      _,
-      _,
-      e2,
-      _,
-      (c, ec, _, _, _),
-      (y3, z3, us3, _, e3, _, m, (k, ek, hf, hb, hn, hj, hd)),
-    ),
-  ),
-) =
-    let (a, ea, range, _, _) = number_at text y1 us1 h in
+line_found text format x ts h =
+    let (w, _, _, e, h1) = after_token h in
+    let (a, _, _, e1, ha, h2) = after_number h1 in
+    let (c, _, _, e2, (y, z, us, vs, e3, _, m, (k, ek, hf, hb, hn, hj, hd))) = after_token h2 in
     let P : Value → Type 0 = λ v. StandsFound places.Lines text (act_line v) ts in
-    subst P (sym (e ∙ ap (λ v. two v z) ew ∙ ap (two (one w)) (e1 ∙ ap (λ v. two v z1) ea ∙ ap (two (one a))
-    (e2 ∙ ap (λ v. two v z2) ec ∙ ap (two (one c)) (e3 ∙ ap (two y3) ek))))) (
-      raws.Line (numeral_of a) (unwrap_or (cofactor_of y3) (mono_one w.start)) k.first k.b
+    subst P (sym (e ∙ ap (two (one w)) (e1 ∙ ap (two (one a)) (e2 ∙ ap (two (one c)) (e3 ∙ ap (two y) ek))))) (
+      raws.Line (numeral_of a) (unwrap_or (cofactor_of y) (mono_one w.start)) k.first k.b
           (unwrap_or k.n (mono_one w.start)) k.j (unwrap_or k.d (number_one w.start)),
       refl,
       tt,
       (
-        numeral_well a range,
-        or_one text (cofactor_of y3) w.start (cofactor_found text format y3 us3 m),
+        numeral_well a ha,
+        or_one text (cofactor_of y) w.start (cofactor_found text format y us m),
         hf,
         hb,
         or_one text k.n w.start hn,
@@ -159,9 +99,10 @@ line_found text format x ts (
 pub step_found : (text : List ℕ) (format : Format) (x : Value) (ts : List Token)
     → Found text (grammar (rules.Step format)) x ts → StandsFound places.Steps text (act_step x) ts
 unfolding grammar
-step_found text format x ts (y, z, _, _, e, _, (w, ew, _, _, _), (k, ek, hf, hb, hn, hj, hd)) =
+step_found text format x ts h =
+    let (w, _, _, e, (k, ek, hf, hb, hn, hj, hd)) = after_token h in
     let P : Value → Type 0 = λ v. StandsFound places.Steps text (act_step v) ts in
-    subst P (sym (e ∙ ap (λ v. two v z) ew ∙ ap (two (one w)) ek)) (
+    subst P (sym (e ∙ ap (two (one w)) ek)) (
       raws.Step k.first k.b (unwrap_or k.n (mono_one w.start)) k.j (unwrap_or k.d (number_one w.start)),
       refl,
       tt,

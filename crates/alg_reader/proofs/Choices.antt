@@ -74,7 +74,8 @@ nsatz_apart n h h' = grind arith
 pub options_apart : Disjoint (goes_on (word words.Nsatz)) (begins options)
 options_apart n h h' = cc
 
-pub using_apart : Disjoint (goes_on using) (begins (seq (option (kinds.Word words.Power)) (option (kinds.Word words.Limit))))
+pub using_apart : Disjoint (goes_on using) (begins (seq (option (kinds.Word words.Power))
+    (option (kinds.Word words.Limit))))
 unfolding rule_goes_on rule_begins
 using_apart n h h' = grind arith
 

@@ -18,7 +18,8 @@ use Rattle.alg_reader.proofs.UseRules.{use_found}
 use Rattle.alg_reader.proofs.Declarations.{ring_found, sort_found, hom_found, vars_found, hyp_found}
 use Rattle.alg_reader.proofs.GoalRules.{method_found, goal_found}
 use Rattle.alg_reader.proofs.MonoRules.{atom_found, factor_found, factors_found, mono_found, int_found}
-use Rattle.alg_reader.proofs.AnswerRules.{condition_found, constant_found, conditional_found, certified_found, proved_found, no_found, zero_denominator_found, none_up_to_found, gave_up_found, stopped_found}
+use Rattle.alg_reader.proofs.ConditionRules.{condition_found, constant_found, conditional_found, certified_found}
+use Rattle.alg_reader.proofs.AnswerRules.{proved_found, no_found, zero_denominator_found, none_up_to_found, gave_up_found, stopped_found}
 use Rattle.alg_reader.proofs.CertificateRules.{combined_found, line_found, step_found}
 use Rattle.alg_reader.proofs.StatementRules.{statement_found}
 

@@ -2,6 +2,7 @@ pub mod Built
 pub mod Depths
 pub mod Held
 pub mod HeldAnswers
+pub mod RulesAhead
 pub mod Ahead
 pub mod ReadSequences
 pub mod ReadChoices
@@ -14,6 +15,8 @@ pub mod Powers
 pub mod Leaves
 pub mod Chains
 pub mod Cutting
+pub mod BodyTrees
+pub mod AnswerTrees
 pub mod Trees
 pub mod Sequences
 pub mod Choices
@@ -23,14 +26,18 @@ pub mod Lists
 pub mod Options
 pub mod AnswerChoices
 pub mod AnswerBodies
+pub mod Numerals
+pub mod GoodParts
 pub mod Good
 pub mod Places
 pub mod Boundaries
 pub mod Found
 pub mod Nodes
 pub mod Rules
+pub mod FoundParts
 pub mod Monos
 pub mod MonoRules
+pub mod ConditionRules
 pub mod AnswerRules
 pub mod CertificateRules
 pub mod StatementRules

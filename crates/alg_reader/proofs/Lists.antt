@@ -27,7 +27,8 @@ pub record Gathers {X : Type 0} (s : Sign) (r : Rule) (item : Value → List X) 
       → (x : Value) × Takes (many (next_of s r)) old rest x × (before ++ after item y ≡ first ++ after item x)
   pub fails : (e : Fault) → Fails (many (next_of s r)) now e → Fails (many (next_of s r)) old e
 
-pub gathers_begins : {X : Type 0} (s : Sign) (r : Rule) (item : Value → List X) (old : List Token) (first before : List X)
+pub gathers_begins : {X : Type 0} (s : Sign) (r : Rule) (item : Value → List X) (old : List Token)
+    (first before : List X)
     → before ≡ first → Gathers s r item old old first before
 gathers_begins s r item old first before e = record {
   takes = λ rest y p. (y, p, ap (λ xs. xs ++ after item y) e);

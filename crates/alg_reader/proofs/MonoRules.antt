@@ -78,7 +78,8 @@ pub factors_found : (text : List ℕ) (x : Value) (ts : List Token) → Found te
 unfolding grammar
 factors_found text x ts (y, z, us, vs, e, _, (f, ef, well), (xs, ez, each)) =
     let P : Value → Type 0 = λ v. MonoFound text (act_factors v) in
-    let more = items_found text signs.Star rules.Factor factor_in (IsWellFactor text) (factor_in_found text) xs vs each in
+    let more = items_found text signs.Star rules.Factor factor_in (IsWellFactor text) (factor_in_found text) xs vs
+    each in
     subst P (sym (e ∙ ap (λ v. two v z) ef ∙ ap (two (factor f)) ez)) (
       mono_of (start_of f) (f ∷ after factor_in (row xs)),
       refl,

@@ -82,7 +82,8 @@ image_well text name f h well =
     record {
       names = subst (AllByRecursion (IsNameAt text)) (sym (fold_image names_of_factor joined (span_of name) inner None))
           (h, names_all text (start_of f) (f ∷ []) (well, tt));
-      exponents = subst (AllByRecursion IsNumeral) (sym (fold_image exponents_of_factor joined (span_of name) inner None))
+      exponents = subst (AllByRecursion IsNumeral) (sym (fold_image exponents_of_factor joined (span_of name) inner
+          None))
           (exponents_all text (start_of f) (f ∷ []) (well, tt));
     }
 

@@ -29,11 +29,13 @@ module _ (r : Rule) (ts : List Token) where
   pub nested_alone : (rest : List Token) (n : Token) → Takes (a kinds.Name) ts rest (one n)
       → Lacks (a (kinds.Sign signs.ParenLeft)) rest → Takes (nested r) ts rest (two (one n) nothing)
   nested_alone rest n p lacks =
-      takes_seq (a kinds.Name) (opt (inside (rule r))) (token_apart kinds.Name (opt (inside (rule r)))) ts rest rest _ _ p
+      takes_seq (a kinds.Name) (opt (inside (rule r))) (token_apart kinds.Name (opt (inside (rule r)))) ts rest rest
+      _ _ p
       (takes_none (inside (rule r)) refl rest (lacks_seq (a (kinds.Sign signs.ParenLeft)) (closed r) rest refl lacks))
 
   pub nested_no_name : (e : Fault) → Fails (a kinds.Name) ts e → Fails (nested r) ts e
-  nested_no_name e h = fails_first (a kinds.Name) (opt (inside (rule r))) (token_apart kinds.Name (opt (inside (rule r))))
+  nested_no_name e h = fails_first (a kinds.Name) (opt (inside (rule r)))
+      (token_apart kinds.Name (opt (inside (rule r))))
       (some_tree (opt (inside (rule r)))) ts e h
 
   module _ (close : Disjoint (goes_on (rule r)) (begins (a (kinds.Sign signs.ParenRight)))) (mid mid' : List Token)
@@ -43,7 +45,8 @@ module _ (r : Rule) (ts : List Token) where
         → Takes (a (kinds.Sign signs.ParenRight)) mid'' rest (one q)
         → Takes (nested r) ts rest (two (one n) (two (one p) (two v (one q))))
     nested_under mid'' rest q v body closes =
-        takes_seq (a kinds.Name) (opt (inside (rule r))) (token_apart kinds.Name (opt (inside (rule r)))) ts mid rest _ _
+        takes_seq (a kinds.Name) (opt (inside (rule r))) (token_apart kinds.Name (opt (inside (rule r)))) ts mid
+        rest _ _
         named (takes_some (inside (rule r)) refl mid rest _
         (takes_seq (a (kinds.Sign signs.ParenLeft)) (closed r) (token_apart (kinds.Sign signs.ParenLeft)
         (closed r)) mid mid' rest _ _ opens
@@ -63,5 +66,6 @@ module _ (r : Rule) (ts : List Token) where
 
     pub nested_unclosed : (mid'' : List Token) (v : Value) (e : Fault) → Takes (rule r) mid' mid'' v
         → Fails (a (kinds.Sign signs.ParenRight)) mid'' e → Fails (nested r) ts e
-    nested_unclosed mid'' v e body fails = behind e (fails_second (rule r) (a (kinds.Sign signs.ParenRight)) close mid' mid''
+    nested_unclosed mid'' v e body fails = behind e (fails_second (rule r) (a (kinds.Sign signs.ParenRight)) close
+        mid' mid''
         _ body e fails)

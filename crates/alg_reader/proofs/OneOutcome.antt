@@ -24,7 +24,8 @@ use Rattle.alg_reader.proofs.OneReading.{compare, goes_on_there, no_end, no_faul
 -- ---- two statements
 
 -- a statement is no front of another
-no_front : (site : Place) (v w : Tree) (t : Token) (after : List Token) → Fits (rule (Statement site)) v → Fits (rule (Statement site)) w
+no_front : (site : Place) (v w : Tree) (t : Token) (after : List Token) → Fits (rule (Statement site)) v
+    → Fits (rule (Statement site)) w
     → spelled w ≡ spelled v ++ t ∷ after → ⊥
 no_front site v w t after h k e =
     let (front, d, s, dot, clear) = statement_dot site v h in
@@ -69,8 +70,10 @@ one_statement site text at raw other (t, ts, to, past, start, (kind, (v, h, s, m
           same_raw raw other (keeps ∙ ap kept_kind one ∙ sym keeps')
           (start ∙ ap (λ x. x.start) (one_first t u ts us same) ∙ sym start') place
           (deep ∙ ap first_of_statement one ∙ sym deep')
-      | inr (inl (x, after, e, _, _)) ↦ absurd (no_front site v w x after h k (s' ∙ e ∙ ap (λ xs. xs ++ x ∷ after) (sym s)))
-      | inr (inr (x, after, e, _, _)) ↦ absurd (no_front site w v x after k h (s ∙ e ∙ ap (λ xs. xs ++ x ∷ after) (sym s')))
+      | inr (inl (x, after, e, _, _)) ↦ absurd (no_front site v w x after h k
+          (s' ∙ e ∙ ap (λ xs. xs ++ x ∷ after) (sym s)))
+      | inr (inr (x, after, e, _, _)) ↦ absurd (no_front site w v x after k h
+          (s ∙ e ∙ ap (λ xs. xs ++ x ∷ after) (sym s')))
     ]
 
 -- ---- a statement or the end, and a fault

@@ -79,7 +79,8 @@ goes_on_there site text before ts t after stop fault same next lexeme past begun
     (inr (inr (u, other, _, inl (_, stuck)))) =
     let one = one_token text stop t u next other in
     let whole : ts ≡ (before ++ t ∷ []) ++ after = same ∙ sym (append_assoc before (t ∷ []) after) in
-    let here = begun_front (rule (Statement site)) (before ++ t ∷ []) after (subst (IsBegun (rule (Statement site))) whole begun) in
+    let here = begun_front (rule (Statement site)) (before ++ t ∷ []) after
+    (subst (IsBegun (rule (Statement site))) whole begun) in
     let P : Token → Type 0 = λ x. IsBegun (rule (Statement site)) (before ++ x ∷ []) in
     stuck (subst P one here)
 goes_on_there site text before ts t after stop fault same next lexeme past begun

@@ -106,7 +106,8 @@ no_numeral_here t rest h =
     (no_token_here (kinds.Number (pos 2)) t rest)) h
 
 -- the next token, where it was seen and taken
-pub seen_head : (f : Form) (b : Bool) (ts rest : List Token) (t : Token) → (s : Token) × (us : List Token) × (ts ≡ s ∷ us)
+pub seen_head : (f : Form) (b : Bool) (ts rest : List Token) (t : Token) → (s : Token) × (us : List Token)
+    × (ts ≡ s ∷ us)
     × (begins f (code s) ≡ b) → ts ≡ t ∷ rest → begins f (code t) ≡ b
 seen_head f b ts rest t s e =
     let same : s.0 ≡ t = let e' = s.2 in cc in

@@ -49,7 +49,8 @@ pub begun_front : (f : Form) (xs ys : List Token) → IsBegun f (xs ++ ys) → I
 begun_front f xs ys (v, back, fits, e) = (v, ys ++ back, fits, e ∙ append_assoc xs ys back)
 
 -- stuck at a token: with it no statement begins
-pub stuck_there : (site : Place) (ts rest : List Token) (t : Token) (p : IsStuckAt (rule (Statement site)) ts (t ∷ rest))
+pub stuck_there : (site : Place) (ts rest : List Token) (t : Token)
+    (p : IsStuckAt (rule (Statement site)) ts (t ∷ rest))
     → IsBegun (rule (Statement site)) (p.seen ++ t ∷ []) → ⊥
 stuck_there site ts rest t p b = p.stuck b.0 [] (t ∷ b.1) (t, rest, b.1, refl, refl) b.2 tt (append-nil (spelled b.0)
     ∙ b.3 ∙ append_assoc p.seen (t ∷ []) b.1)
@@ -93,7 +94,8 @@ whole_statement : (site : Place) (text : List ℕ) (at mid start stop : ℕ)
     (s : HeldStatement) (kind : RawKind) → s ≡ held_statement kind → ts ≡ before ++ t ∷ [] →
     Reaches text at before mid
     → IsNext text mid (Ok t)
-    → t.kind ≢ kinds.End → t.kind ≡ kinds.Sign signs.Dot → Takes (rule (Statement site)) (ts ++ e ∷ []) new (kind_value kind)
+    → t.kind ≢ kinds.End → t.kind ≡ kinds.Sign signs.Dot
+    → Takes (rule (Statement site)) (ts ++ e ∷ []) new (kind_value kind)
     → ((u : Token) (us : List Token) → ts ≡ u ∷ us → start ≡ u.start) → ((us : List Token) (u : Token)
     → ts ≡ us ++ u ∷ [] → stop ≡ u.stop)
     → IsRead site text at (Ok (record { kind = s.kind; start = start; stop = stop; too_deep = s.too_deep }))

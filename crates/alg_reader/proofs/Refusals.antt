@@ -89,7 +89,8 @@ stuck_inside site text at ts seen rest e t fault is (inr (inr (
     (subst HasNoDot front clear)) same begun stuck lexeme
 
 -- stuck behind a dot: the tokens are a statement
-never_behind_dot : (site : Place) (before us rest : List Token) (last t : Token) (p : IsStuckAt (rule (Statement site)) us (t ∷ rest))
+never_behind_dot : (site : Place) (before us rest : List Token) (last t : Token)
+    (p : IsStuckAt (rule (Statement site)) us (t ∷ rest))
     → p.seen ≡ before ++ last ∷ [] → HasNoDot before
     → last.kind ≡ kinds.Sign signs.Dot → t.kind ≡ kinds.End → ⊥
 unfolding rule_goes_on

@@ -5,7 +5,8 @@ use Rattle.alg_reader.specs.Forms.{Rule, Form, a, seq, alt, opt, many, rule, Tre
 use Rattle.alg_reader.specs.Grammar.{grammar, Fits}
 use Rattle.alg_reader.specs.Ahead.{CannotGoOn, Starts}
 use Rattle.alg_reader.proofs.Ahead.{ends_first, ends_second, ends_opt, ends_left, ends_right, ends_rule, ends_clash, clash, starts_with}
-use Rattle.alg_reader.proofs.Good.{IsGood, good_grammar}
+use Rattle.alg_reader.proofs.GoodParts.{IsGood}
+use Rattle.alg_reader.proofs.Good.{good_grammar}
 use Rattle.alg_reader.proofs.ReadRows.{ends_turn}
 
 -- Two derivations from one form that spell the fronts of one text, each up to where it could end, are one.

@@ -133,7 +133,8 @@ nsatz_derived file uses power limit at power_at limit_at power_is limit_is =
     let both_options = pieces_before (option (kinds.Word words.Power)) (option (kinds.Word words.Limit))
     (space ∷ word words.Power ∷ space ∷ numeral power ∷ []) (space ∷ word words.Limit ∷ space ∷ numeral limit ∷ [])
     first_option second_option _ _ (omega arith) first second in
-    let all = pieces_before using (seq (option (kinds.Word words.Power)) (option (kinds.Word words.Limit))) (uses_pieces file uses)
+    let all = pieces_before using (seq (option (kinds.Word words.Power)) (option (kinds.Word words.Limit)))
+    (uses_pieces file uses)
     (option_pieces power limit) behind first_option x _ refl derived both_options in
     let whole = by_rule rules.Method (tokens_of at (method_pieces file (ByNsatz uses power limit))) _
     (first_way _ _ _ _ (token_before (kinds.Word words.Nsatz) (word_at words.Nsatz at) _ _ _ refl all)) in

@@ -142,8 +142,12 @@ numeral_tree (pos zero) at stop =
     (left (token (record { kind = kinds.Number (pos zero); start = at; stop = stop })), refl, refl, refl)
 numeral_tree (pos (suc zero)) at stop =
     (right (left (token (record { kind = kinds.Number (pos 1); start = at; stop = stop }))), refl, refl, refl)
-numeral_tree (pos (suc (suc n))) at stop =
-    (right (right (token (record { kind = kinds.Number (pos (suc (suc n))); start = at; stop = stop }))), refl, refl, refl)
+numeral_tree (pos (suc (suc n))) at stop = (
+  right (right (token (record { kind = kinds.Number (pos (suc (suc n))); start = at; stop = stop }))),
+  refl,
+  refl,
+  refl,
+)
 numeral_tree (negsuc n) at stop =
     (right (right (token (record { kind = kinds.Number (negsuc n); start = at; stop = stop }))), refl, refl, refl)
 

@@ -68,7 +68,8 @@ module _ (law : CutFromAnywhere) (file : File) (valid : IsValid file) (few : Ope
       (closed_next file valid before after s split is closed) in
       let behind = subst (λ at. GoesOnWith (file_way bytes) bytes at (front file further) raws (Ok file))
       (next_place law file valid few before s) more in
-      let from = subst (λ g. GoesOnWith (file_way bytes) bytes raw.stop g raws (Ok file)) (sym taken.extends) behind in (
+      let from = subst (λ g. GoesOnWith (file_way bytes) bytes raw.stop g raws (Ok file)) (sym taken.extends)
+      behind in (
         raw ∷ raws,
         (
           read_there before after s split,

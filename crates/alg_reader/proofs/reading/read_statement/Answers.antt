@@ -24,7 +24,8 @@ returns-in-Ok-clause-read c =
     let whole : c.new-cursor.result ≡ tokens ++ e ∷ [] = c.new-cursor.ensures
     ∙ ap (λ us. us ++ e ∷ []) c.deref-2.ensures.value in
     let (kind, keeps, p) = c.in-Ok.ensures in
-    let P : List Token → Type 0 = λ us. Takes (rule (Statement c.args.place)) us c.statement.new.self (kind_value kind) in
+    let P : List Token → Type 0 = λ us. Takes (rule (Statement c.args.place)) us c.statement.new.self
+    (kind_value kind) in
     read_ok c.args.place c.args.text.now c.args.at c.ends_of-start.result.0
     c.ends_of-start.result.1 tokens c.statement.new.self
     fault e _ kind keeps refl c.in_ok-cut.ensures (subst P whole p)

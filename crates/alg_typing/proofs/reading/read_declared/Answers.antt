@@ -38,7 +38,8 @@ same-declared c = refl
 
 pub returns-in-End-clause-ok : goal.returns-in-End-clause-ok
 returns-in-End-clause-ok c =
-    ends_here (file_way c.args.text.now) c.args.text.now no_statements c.statements.at c.statements.declared c.in_ok-raw.raw
+    ends_here (file_way c.args.text.now) c.args.text.now no_statements c.statements.at c.statements.declared
+    c.in_ok-raw.raw
     c.statements.invariant.decides c.in_ok-raw.ensures.read c.in-End.is
 
 -- a statement is added
@@ -75,7 +76,8 @@ statements-preserved c =
     let more = subst (λ (f : File). HasAtMost f raw.stop) (sym is)
     (still_few c.statements.declared text c.statements.at raw invariant.few well c.in_default.not-End c.requires) in
     record {
-      decides = decides_still (file_way text) text no_statements c.statements.at c.statements.declared c.add.new.self raw
+      decides = decides_still (file_way text) text no_statements c.statements.at c.statements.declared
+          c.add.new.self raw
           invariant.decides c.in_ok-raw.ensures.read c.in_default.not-End c.in_ok-add.ensures.ok.0 is;
       boundary = well.stops;
       few = more;
@@ -86,6 +88,7 @@ pub returns-in_err-add : goal.returns-in_err-add
 returns-in_err-add c = record {
   ok = error_tells_nothing _ _ c.from_residual-in_err-add.result c.from_residual-in_err-add.ensures.1;
   refused = passed_on _ c.from_residual-in_err-add.result _ c.from_residual-in_err-add.ensures.1
-      (told_fault (file_way c.args.text.now) c.args.text.now no_statements c.statements.at c.statements.declared c.in_ok-raw.raw _
+      (told_fault (file_way c.args.text.now) c.args.text.now no_statements c.statements.at c.statements.declared
+      c.in_ok-raw.raw _
       c.statements.invariant.decides c.in_ok-raw.ensures.read c.in_default.not-End c.in_err-add.ensures.refused);
 }

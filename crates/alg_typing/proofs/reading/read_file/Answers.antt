@@ -20,7 +20,8 @@ returns-in-Ok-clause-ok c =
 
 pub returns-in-Ok-clause-refused : goal.returns-in-Ok-clause-refused
 returns-in-Ok-clause-refused c =
-    told_all file_way no_statements c.args.bytes.now c.in-Ok.text.now c.in-Ok.ensures.cases.0 c.in-Ok.ensures.cases.1 c.read_text.result
+    told_all file_way no_statements c.args.bytes.now c.in-Ok.text.now c.in-Ok.ensures.cases.0
+    c.in-Ok.ensures.cases.1 c.read_text.result
     c.read_text.ensures.refused
 
 -- they are none

@@ -36,7 +36,8 @@ unfolding grammar
 returns-in_err-_close t c =
     let paren = taken (kinds.Sign signs.ParenLeft) _ _ c.take-paren.result c.if-not-sees.ensures c.take-paren.ensures in
     passed (rule rules.Atom) factor _ _ c.from_residual-in_err-_close.result c.in_err-_close.field-0.0
-    c.from_residual-in_err-_close.ensures.1 (fails_rule rules.Atom _ _ (nested_unclosed rules.Atom _ atom_then_close _ _ _ _
+    c.from_residual-in_err-_close.ensures.1 (fails_rule rules.Atom _ _
+    (nested_unclosed rules.Atom _ atom_then_close _ _ _ _
     c.in_ok-name.ensures c.if-not-sees.ensures paren _ _ _ c.in_ok-inner.ensures c.in_err-_close.ensures))
 
 pub returns : goal.returns

@@ -24,13 +24,15 @@ returns-in_err-_unequal c =
 pub returns-in_err-_zero : goal.returns-in_err-_zero
 unfolding grammar
 returns-in_err-_zero c =
-    let o = owes_token (owes_less sum_then_unequal (owes_rule rules.Condition _) c.in_ok-sum.ensures.2) c.in_ok-_unequal.ensures in
+    let o = owes_token (owes_less sum_then_unequal (owes_rule rules.Condition _) c.in_ok-sum.ensures.2)
+    c.in_ok-_unequal.ensures in
     passed_term rules.Condition _ _ c.from_residual-in_err-_zero.result c.in_err-_zero.field-0.0
     c.from_residual-in_err-_zero.ensures.1 (o.fails _ c.in_err-_zero.ensures)
 
 pub returns : goal.returns
 unfolding grammar act
 returns c =
-    let o = owes_token (owes_less sum_then_unequal (owes_rule rules.Condition _) c.in_ok-sum.ensures.2) c.in_ok-_unequal.ensures in
+    let o = owes_token (owes_less sum_then_unequal (owes_rule rules.Condition _) c.in_ok-sum.ensures.2)
+    c.in_ok-_unequal.ensures in
     let (t, e, p) = c.in_ok-sum.ensures in
     (t, e, o.takes _ _ c.in_ok-_zero.ensures)

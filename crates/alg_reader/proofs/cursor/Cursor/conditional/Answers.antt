@@ -39,7 +39,8 @@ returns-in_err-first c =
 conditions_read : (old now new : List Token) (t : RawTerm) (r : Result HeldAnswer Fault) (before : Value → Value)
     → ((v : Value) → before v ≡ answer (answers.Proved (t ∷ after term_in v)))
     → Owes (rule rules.Conditional) (many (next_of signs.Comma rules.Condition)) old now before
-    → ReadsAs (many (next_of signs.Comma rules.Condition)) (λ v. held_answer (answers.Proved (t ∷ after term_in v))) now r
+    → ReadsAs (many (next_of signs.Comma rules.Condition)) (λ v. held_answer (answers.Proved (t ∷ after term_in v)))
+    now r
     new → ReadsAnswer (rule rules.Conditional) old r new
 conditions_read old now new t (Ok x) before is o (v, e, p) =
     let P : Value → Type 0 = λ w. Takes (rule rules.Conditional) old new w in

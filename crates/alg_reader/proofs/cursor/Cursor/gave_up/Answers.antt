@@ -11,8 +11,8 @@ pub returns-in_err-_gave : goal.returns-in_err-_gave
 unfolding grammar
 returns-in_err-_gave c =
     let o = owes_rule rules.GaveUp _ in
-    passed_statement (rule rules.GaveUp) _ _ c.from_residual.result c.in_err-_gave.field-0.0
-    c.from_residual.ensures.1 (fails_token _ o c.in_err-_gave.ensures)
+    passed_statement (rule rules.GaveUp) _ _ c.from_residual.result c.in_err-_gave.field-0.0 c.from_residual.ensures.1
+    (fails_token _ o c.in_err-_gave.ensures)
 
 pub returns-in_err-_up : goal.returns-in_err-_up
 unfolding grammar
@@ -31,12 +31,14 @@ returns-in_err-_after c =
 pub returns-in_err-limit : goal.returns-in_err-limit
 unfolding grammar
 returns-in_err-limit c =
-    let o = owes_token (owes_token (owes_token (owes_rule rules.GaveUp _) c.in_ok-_gave.ensures) c.in_ok-_up.ensures) c.in_ok-_after.ensures in
+    let before_after = owes_token (owes_token (owes_rule rules.GaveUp _) c.in_ok-_gave.ensures) c.in_ok-_up.ensures in
+    let o = owes_token before_after c.in_ok-_after.ensures in
     passed_statement (rule rules.GaveUp) _ _ c.from_residual-in_err-limit.result c.in_err-limit.field-0.0
     c.from_residual-in_err-limit.ensures.1 (o.fails _ c.in_err-limit.ensures)
 
 pub returns : goal.returns
 unfolding grammar act
 returns c =
-    let o = owes_token (owes_token (owes_token (owes_rule rules.GaveUp _) c.in_ok-_gave.ensures) c.in_ok-_up.ensures) c.in_ok-_after.ensures in
+    let before_after = owes_token (owes_token (owes_rule rules.GaveUp _) c.in_ok-_gave.ensures) c.in_ok-_up.ensures in
+    let o = owes_token before_after c.in_ok-_after.ensures in
     (_, c.plain.ensures, rw c.numeral_of.ensures (o.takes _ _ c.in_ok-limit.ensures))

@@ -22,7 +22,8 @@ pub returns-in_err-_comma : goal.returns-in_err-_comma
 returns-in_err-_comma c =
     passed_kept (cofactor formats.One) cofactor_of (λ v. v) _ _ c.from_residual-in_err-_comma.result
     c.in_err-_comma.field-0.0 c.from_residual-in_err-_comma.ensures.1
-    (fails_second (rule rules.Mono) (sign signs.Comma) mono_then_comma _ _ _ c.in_ok-mono.ensures _ c.in_err-_comma.ensures)
+    (fails_second (rule rules.Mono) (sign signs.Comma) mono_then_comma _ _ _ c.in_ok-mono.ensures _
+    c.in_err-_comma.ensures)
 
 pub returns : goal.returns
 returns c = (

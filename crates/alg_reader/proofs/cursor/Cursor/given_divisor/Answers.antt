@@ -14,7 +14,8 @@ use Rattle.alg_reader.proofs.cursor.Cursor.given_divisor.Goals as goal
 pub returns-in_err-_over : goal.returns-in_err-_over
 returns-in_err-_over c =
     passed_kept (divisor formats.One) option_of (λ v. v) _ _ c.from_residual.result c.in_err-_over.field-0.0
-    c.from_residual.ensures.1 (fails_first (word words.Over) number (token_apart (kinds.Word words.Over) number) (some_tree
+    c.from_residual.ensures.1 (fails_first (word words.Over) number (token_apart (kinds.Word words.Over) number)
+    (some_tree
     number) _ _ c.in_err-_over.ensures)
 
 pub returns-in_err-number : goal.returns-in_err-number

@@ -25,12 +25,15 @@ returns-then-sees c =
     (taken (kinds.Number (pos 1)) _ _ c.take-one.result c.if-sees.ensures c.take-one.ensures)))
 
 -- a monomial that is not 1
-factors_read : (ts new : List Token) (r : Result RawMono Fault) → Lacks unit ts → Reads (rule rules.Factors) mono ts r new
+factors_read : (ts new : List Token) (r : Result RawMono Fault) → Lacks unit ts
+    → Reads (rule rules.Factors) mono ts r new
     → Reads (rule rules.Mono) mono ts r new
 unfolding grammar act
-factors_read ts new (Ok m) lacks h = takes_rule rules.Mono _ _ _ (takes_right unit (rule rules.Factors) mono_apart refl refl
+factors_read ts new (Ok m) lacks h = takes_rule rules.Mono _ _ _
+    (takes_right unit (rule rules.Factors) mono_apart refl refl
     _ _ _ h)
-factors_read ts new (Err e) lacks h = fails_rule rules.Mono _ _ (fails_right unit (rule rules.Factors) mono_apart refl refl
+factors_read ts new (Err e) lacks h = fails_rule rules.Mono _ _
+    (fails_right unit (rule rules.Factors) mono_apart refl refl
     _ _ lacks h)
 
 pub returns : goal.returns

@@ -17,7 +17,8 @@ use Rattle.alg_reader.proofs.cursor.Cursor.more_conditions.Goals as goal
 pub conditions-init : goal.conditions-init
 conditions-init c = λ t e. (
   t ∷ [],
-  one_held c.args.first t _ e (c.in_ok-push.ensures.items ∙ ap (λ xs. xs ++ c.args.first.term ∷ []) c.new-conditions.ensures.items),
+  one_held c.args.first t _ e (c.in_ok-push.ensures.items
+      ∙ ap (λ xs. xs ++ c.args.first.term ∷ []) c.new-conditions.ensures.items),
   gathers_begins signs.Comma rules.Condition term_in _ (t ∷ []) (t ∷ []) refl,
 )
 
@@ -45,6 +46,10 @@ returns c = λ t e.
     let (ts, held, gathers) = c.conditions.invariant t e in
     let (v, all, p) = gathers_ends signs.Comma rules.Condition term_in condition_again _ _ (t ∷ []) ts
     c.conditions-test.ensures gathers in
-    let P : List RawTerm → Type 0 = λ xs. record { answer = answers.Proved c.from_vec-conditions.result; too_deep = c.conditions.too_deep }
+    let P : List RawTerm → Type 0 = λ xs. record {
+      answer = answers.Proved c.from_vec-conditions.result;
+      too_deep =
+          c.conditions.too_deep;
+    }
     ≡ held_answer (answers.Proved xs) in
     (v, subst P all (rw c.from_vec-conditions.ensures (conditions_held _ _ ts held)), p)

@@ -14,7 +14,8 @@ factors-init c = gathers_begins signs.Star rules.Factor factor_in _ (c.args.firs
     ∙ ap (λ xs. xs ++ c.args.first ∷ []) c.new-factors.ensures.items)
 
 pub factors-preserved : goal.factors-preserved
-factors-preserved c = gathers_more signs.Star rules.Factor factor_in star_apart _ _ _ c.take-star.result (c.args.first ∷ [])
+factors-preserved c = gathers_more signs.Star rules.Factor factor_in star_apart _ _ _ c.take-star.result
+    (c.args.first ∷ [])
     c.factors.factors.items c.factors-test.ensures c.take-star.ensures c.factors.invariant _ _ _ _
     c.in_ok-factor.ensures refl c.in_ok-push-2.ensures.items
 
@@ -22,11 +23,13 @@ pub returns-in_err-factor : goal.returns-in_err-factor
 returns-in_err-factor c =
     passed_kept (many (next_of signs.Star rules.Factor)) (λ v. c.args.first ∷ after factor_in v) (λ v. v) _ _
     c.from_residual-in_err-factor.result c.in_err-factor.field-0.0 c.from_residual-in_err-factor.ensures.1
-    (gathers_fails signs.Star rules.Factor factor_in star_apart _ _ _ c.take-star.result (c.args.first ∷ []) c.factors.factors.items
+    (gathers_fails signs.Star rules.Factor factor_in star_apart _ _ _ c.take-star.result (c.args.first ∷ [])
+    c.factors.factors.items
     c.factors-test.ensures c.take-star.ensures c.factors.invariant _ c.in_err-factor.ensures)
 
 pub returns : goal.returns
 returns c =
-    let (v, all, p) = gathers_ends signs.Star rules.Factor factor_in star_apart _ _ (c.args.first ∷ []) c.factors.factors.items
+    let (v, all, p) = gathers_ends signs.Star rules.Factor factor_in star_apart _ _ (c.args.first ∷ [])
+    c.factors.factors.items
     c.factors-test.ensures c.factors.invariant in
     (v, c.from_vec.ensures ∙ all, p)

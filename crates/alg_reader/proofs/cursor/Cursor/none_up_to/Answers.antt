@@ -31,19 +31,22 @@ returns-in_err-_to c =
 pub returns-in_err-_power : goal.returns-in_err-_power
 unfolding grammar
 returns-in_err-_power c =
-    let o = owes_token (owes_token (owes_token (owes_rule rules.NoneUpTo _) c.in_ok-_none.ensures) c.in_ok-_up.ensures) c.in_ok-_to.ensures in
+    let before_to = owes_token (owes_token (owes_rule rules.NoneUpTo _) c.in_ok-_none.ensures) c.in_ok-_up.ensures in
+    let o = owes_token before_to c.in_ok-_to.ensures in
     passed_statement (rule rules.NoneUpTo) _ _ c.from_residual-in_err-_power.result c.in_err-_power.field-0.0
     c.from_residual-in_err-_power.ensures.1 (fails_token _ o c.in_err-_power.ensures)
 
 pub returns-in_err-power : goal.returns-in_err-power
 unfolding grammar
 returns-in_err-power c =
-    let o = owes_token (owes_token (owes_token (owes_token (owes_rule rules.NoneUpTo _) c.in_ok-_none.ensures) c.in_ok-_up.ensures) c.in_ok-_to.ensures) c.in_ok-_power.ensures in
+    let before_to = owes_token (owes_token (owes_rule rules.NoneUpTo _) c.in_ok-_none.ensures) c.in_ok-_up.ensures in
+    let o = owes_token (owes_token before_to c.in_ok-_to.ensures) c.in_ok-_power.ensures in
     passed_statement (rule rules.NoneUpTo) _ _ c.from_residual-in_err-power.result c.in_err-power.field-0.0
     c.from_residual-in_err-power.ensures.1 (o.fails _ c.in_err-power.ensures)
 
 pub returns : goal.returns
 unfolding grammar act
 returns c =
-    let o = owes_token (owes_token (owes_token (owes_token (owes_rule rules.NoneUpTo _) c.in_ok-_none.ensures) c.in_ok-_up.ensures) c.in_ok-_to.ensures) c.in_ok-_power.ensures in
+    let before_to = owes_token (owes_token (owes_rule rules.NoneUpTo _) c.in_ok-_none.ensures) c.in_ok-_up.ensures in
+    let o = owes_token (owes_token before_to c.in_ok-_to.ensures) c.in_ok-_power.ensures in
     (_, c.plain.ensures, rw c.numeral_of.ensures (o.takes _ _ c.in_ok-power.ensures))

@@ -21,7 +21,8 @@ returns-in_err-power c =
     let numbers = seq (option (kinds.Word words.Power)) (option (kinds.Word words.Limit)) in
     passed_kept options nsatz_of (λ v. v) _ _ c.from_residual-in_err-power.result c.in_err-power.field-0.0
     c.from_residual-in_err-power.ensures.1 (fails_second using numbers using_apart _ _ _ c.in_ok-uses.ensures.2 _
-    (fails_first (option (kinds.Word words.Power)) (option (kinds.Word words.Limit)) power_apart (some_tree (option (kinds.Word words.Limit))) _ _
+    (fails_first (option (kinds.Word words.Power)) (option (kinds.Word words.Limit)) power_apart
+    (some_tree (option (kinds.Word words.Limit))) _ _
     c.in_err-power.ensures))
 
 pub returns-in_err-limit : goal.returns-in_err-limit
@@ -29,7 +30,8 @@ returns-in_err-limit c =
     let numbers = seq (option (kinds.Word words.Power)) (option (kinds.Word words.Limit)) in
     passed_kept options nsatz_of (λ v. v) _ _ c.from_residual-in_err-limit.result c.in_err-limit.field-0.0
     c.from_residual-in_err-limit.ensures.1 (fails_second using numbers using_apart _ _ _ c.in_ok-uses.ensures.2 _
-    (fails_second (option (kinds.Word words.Power)) (option (kinds.Word words.Limit)) power_apart _ _ _ c.in_ok-power.ensures.2 _
+    (fails_second (option (kinds.Word words.Power)) (option (kinds.Word words.Limit)) power_apart _ _ _
+    c.in_ok-power.ensures.2 _
     c.in_err-limit.ensures))
 
 pub returns : goal.returns

@@ -62,7 +62,8 @@ returns-in_err-conditional c =
     let starts = starts_with_word words.If rules.Conditional if_word _ c.if-sees.ensures in
     passed_statement (rule rules.Proved) _ _ c.from_residual-in_err-conditional.result c.in_err-conditional.field-0.0
     c.from_residual-in_err-conditional.ensures.1 (o.fails _ (fails_some ways refl _ _ (starts_left
-    (rule rules.Conditional) (rule rules.Certified) _ starts) (fails_left (rule rules.Conditional) (rule rules.Certified)
+    (rule rules.Conditional) (rule rules.Certified) _ starts)
+    (fails_left (rule rules.Conditional) (rule rules.Certified)
     conditional_apart refl refl _ _ starts c.in_err-conditional.ensures)))
 
 pub returns-then-sees : goal.returns-then-sees
@@ -83,8 +84,10 @@ returns-in_err-certified c =
     let starts = starts_certified _ c.if-sees_either.ensures in
     passed_statement (rule rules.Proved) _ _ c.from_residual-in_err-certified.result c.in_err-certified.field-0.0
     c.from_residual-in_err-certified.ensures.1 (o.fails _ (fails_some ways refl _ _ (starts_right
-    (rule rules.Conditional) (rule rules.Certified) _ starts) (fails_right (rule rules.Conditional) (rule rules.Certified)
-    conditional_apart refl refl _ _ (lacks_word words.If rules.Conditional if_word _ c.if-sees.ensures) c.in_err-certified.ensures)))
+    (rule rules.Conditional) (rule rules.Certified) _ starts)
+    (fails_right (rule rules.Conditional) (rule rules.Certified)
+    conditional_apart refl refl _ _ (lacks_word words.If rules.Conditional if_word _ c.if-sees.ensures)
+    c.in_err-certified.ensures)))
 
 pub returns-then-sees_either : goal.returns-then-sees_either
 unfolding grammar act
@@ -104,6 +107,7 @@ returns c =
     let none = c.from_vec-conditions.ensures ∙ c.new.ensures.items in (
       _,
       c.plain.ensures,
-      rw none (o.takes _ _ (takes_none ways refl _ (lacks_both _ (lacks_word words.If rules.Conditional if_word _ c.if-sees.ensures)
+      rw none (o.takes _ _ (takes_none ways refl _ (lacks_both _
+          (lacks_word words.If rules.Conditional if_word _ c.if-sees.ensures)
           c.if-sees_either.ensures))),
     )

@@ -18,13 +18,15 @@ returns-in_err-said c =
 pub returns-in_err-_dot : goal.returns-in_err-_dot
 unfolding grammar
 returns-in_err-_dot c =
-    let o = owes_less (said_then_dot c.args.place) (owes_rule (rules.Statement c.args.place) _) c.in_ok-said.ensures.2 in
-    passed_statement (rule (rules.Statement c.args.place)) _ _ c.from_residual-in_err-_dot.result c.in_err-_dot.field-0.0
-    c.from_residual-in_err-_dot.ensures.1 (o.fails _ c.in_err-_dot.ensures)
+    let before_said = owes_rule (rules.Statement c.args.place) _ in
+    let o = owes_less (said_then_dot c.args.place) before_said c.in_ok-said.ensures.2 in
+    passed_statement (rule (rules.Statement c.args.place)) _ _ c.from_residual-in_err-_dot.result
+    c.in_err-_dot.field-0.0 c.from_residual-in_err-_dot.ensures.1 (o.fails _ c.in_err-_dot.ensures)
 
 pub returns : goal.returns
 unfolding grammar act
 returns c =
-    let o = owes_less (said_then_dot c.args.place) (owes_rule (rules.Statement c.args.place) _) c.in_ok-said.ensures.2 in
+    let before_said = owes_rule (rules.Statement c.args.place) _ in
+    let o = owes_less (said_then_dot c.args.place) before_said c.in_ok-said.ensures.2 in
     let (kind, e, p) = c.in_ok-said.ensures in
     (kind, e, o.takes _ _ c.in_ok-_dot.ensures)

@@ -18,7 +18,8 @@ pub returns-in_err-combined : goal.returns-in_err-combined
 unfolding grammar
 returns-in_err-combined c =
     let o = owes_token (owes_rule (rules.Step c.args.format) _) c.in_ok-word.ensures in
-    passed_statement (rule (rules.Step c.args.format)) _ _ c.from_residual-in_err-combined.result c.in_err-combined.field-0.0
+    passed_statement (rule (rules.Step c.args.format)) _ _ c.from_residual-in_err-combined.result
+    c.in_err-combined.field-0.0
     c.from_residual-in_err-combined.ensures.1 (o.fails _ c.in_err-combined.ensures)
 
 pub returns : goal.returns

@@ -27,7 +27,8 @@ returns-then-sees c =
     let range = taken (kinds.Word words.Range) _ _ c.take-range.result c.if-sees.ensures c.take-range.ensures in (
       _,
       c.plain.ensures,
-      rw c.stopped_word.ensures (takes_rule rules.Stopped _ _ _ (takes_left (word words.Range) others range_apart refl refl
+      rw c.stopped_word.ensures (takes_rule rules.Stopped _ _ _
+          (takes_left (word words.Range) others range_apart refl refl
           _ _ _ range)),
     )
 
@@ -43,6 +44,7 @@ unfolding grammar act
 returns c = (
   _,
   c.plain-2.ensures,
-  rw c.stopped_word-2.ensures (takes_rule rules.Stopped _ _ _ (takes_right (word words.Range) others range_apart refl refl
+  rw c.stopped_word-2.ensures (takes_rule rules.Stopped _ _ _
+      (takes_right (word words.Range) others range_apart refl refl
       _ _ _ c.in_ok-word.ensures)),
 )

@@ -20,20 +20,24 @@ pub returns-in_err-_denominator : goal.returns-in_err-_denominator
 unfolding grammar
 returns-in_err-_denominator c =
     let o = owes_token (owes_rule rules.ZeroDenominator _) c.in_ok-_zero.ensures in
-    passed_statement (rule rules.ZeroDenominator) _ _ c.from_residual-in_err-_denominator.result c.in_err-_denominator.field-0.0
+    passed_statement (rule rules.ZeroDenominator) _ _ c.from_residual-in_err-_denominator.result
+    c.in_err-_denominator.field-0.0
     c.from_residual-in_err-_denominator.ensures.1 (fails_token _ o c.in_err-_denominator.ensures)
 
 pub returns-in_err-denominator : goal.returns-in_err-denominator
 unfolding grammar
 returns-in_err-denominator c =
-    let o = owes_token (owes_token (owes_rule rules.ZeroDenominator _) c.in_ok-_zero.ensures) c.in_ok-_denominator.ensures in
-    passed_statement (rule rules.ZeroDenominator) _ _ c.from_residual-in_err-denominator.result c.in_err-denominator.field-0.0
+    let o = owes_token (owes_token (owes_rule rules.ZeroDenominator _) c.in_ok-_zero.ensures)
+    c.in_ok-_denominator.ensures in
+    passed_statement (rule rules.ZeroDenominator) _ _ c.from_residual-in_err-denominator.result
+    c.in_err-denominator.field-0.0
     c.from_residual-in_err-denominator.ensures.1 (o.fails _ c.in_err-denominator.ensures)
 
 pub returns : goal.returns
 unfolding grammar act
 returns c =
-    let o = owes_token (owes_token (owes_rule rules.ZeroDenominator _) c.in_ok-_zero.ensures) c.in_ok-_denominator.ensures in
+    let o = owes_token (owes_token (owes_rule rules.ZeroDenominator _) c.in_ok-_zero.ensures)
+    c.in_ok-_denominator.ensures in
     let (t, e, p) = c.in_ok-denominator.ensures in (
       _,
       c.answered.ensures ∙ answer_said _ _ (zero_denominator_held c.in_ok-denominator.denominator t e),
