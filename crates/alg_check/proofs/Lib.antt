@@ -3,6 +3,11 @@ pub mod Following
 pub mod Made
 pub mod Chains
 pub mod Once
+pub mod Primes
+pub mod ConstantsOf
+pub mod CertificateValues
+pub mod TableValues
+pub mod CertifiedGoals
 pub mod Sizes
 pub mod Answers
 pub mod Reports
@@ -14,3 +19,4 @@ pub mod NodeEnds
 pub mod NumberTests
 pub mod Fields
 pub mod Few
+pub mod Right

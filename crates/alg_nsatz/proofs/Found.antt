@@ -20,7 +20,7 @@ use Rattle.alg_reify.specs.declared.stop.Stop.{Stop}
 use Rattle.alg_reify.specs.Preparing.{is_equation, prepared_goal, prepared_hyps, used_difference}
 use Rattle.alg_reify.specs.Stops.{stop_of_polynomial}
 use Rattle.alg_reify.specs.Table.{table}
-pub use Rattle.alg_reify.proofs.UseTurns.{kept_length}
+use Rattle.alg_reify.proofs.UseTurns.{kept_length}
 use Rattle.alg_nsatz.specs.declared.decide.NsatzAnswer.{NsatzAnswer}
 use Rattle.alg_nsatz.specs.declared.preparing.Task.{Task}
 use Rattle.alg_nsatz.specs.Answers.{Answers, Stops, verdict_of}

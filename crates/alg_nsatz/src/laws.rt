@@ -1,6 +1,6 @@
 //! What holds of the verdicts by nsatz. The functions do nothing: their contracts are the laws.
 
-ghost use Rattle.alg_nsatz.specs.Certificates.{CertificatesHold};
+ghost use Rattle.alg_check.specs.Certificates.{CertificatesHold};
 ghost use Rattle.alg_nsatz.specs.Laws.{OneNsatzVerdict, ProvedIsRight};
 
 use alg_universe::Universe;
@@ -17,13 +17,15 @@ pub fn one_nsatz_verdict()
 /// has no constants.
 pub fn certificates<U: Universe>()
     ensures { CertificatesHold U.Universe }
-{}
+{
+    alg_check::laws::certificates::<U>();
+}
 
 /// A goal by nsatz of a valid file whose verdict is Proved is right in every universe: where its used
 /// hypotheses hold and none of the constants is zero, its sides are equal.
 pub fn proved_is_right<U: Universe>()
     ensures { ProvedIsRight U.Universe }
 {
-    alg_meaning::laws::uses::<U>();
+    alg_check::laws::certified_is_right::<U>();
     alg_groebner::laws::certificates_are_good();
 }

@@ -37,8 +37,8 @@ use Rattle.alg_reify.proofs.Images.{mono_image, poly_image}
 use Rattle.alg_reify.proofs.Made.{made, all_back}
 use Rattle.alg_reify.proofs.Prepared.{left_held, right_held, made_difference}
 use Rattle.alg_reify.proofs.Undone.{poly_back}
-use Rattle.alg_nsatz.specs.Certificates.{poly_at}
-use Rattle.alg_nsatz.proofs.CertificateValues.{atom, mono, at, poly_below, at_difference}
+use Rattle.alg_check.specs.Certificates.{poly_at}
+use Rattle.alg_check.proofs.CertificateValues.{atom, mono, at, poly_below, at_difference}
 
 -- the atoms of a polynomial under a path are of the sort where the path ends
 along_of : (file : File) (t s : ℕ) (path : List ℕ) → All (λ f. f < length file.homs) path → Leads file path s t →

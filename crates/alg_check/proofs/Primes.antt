@@ -10,7 +10,7 @@ use Rattle.alg_lines.specs.declared.cert.Cert.{Cert}
 use Rattle.alg_lines.specs.Lines.{line_at}
 use Rattle.alg_lines.specs.Accepting.{IsOneOf, AreLines, AreSteps, Acceptance, Accepting, Leads, IsGood, Good, Bad, Range, Degree, bad_power, too_great, too_high, bad_line, bad_step, not_zero, good}
 use Rattle.alg_lines.specs.Constants.{constants}
-use Rattle.alg_nsatz.proofs.ConstantsOf.{constants_suffice}
+use Rattle.alg_check.proofs.ConstantsOf.{constants_suffice}
 
 -- Z holds of the polynomials of a prime ideal, and N of numbers outside it
 pub record IsPrime (Z : Polynomial → Type 0) (N : ℤ → Type 0) : Type 0 where

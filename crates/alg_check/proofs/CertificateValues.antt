@@ -18,8 +18,8 @@ use Rattle.alg_meaning.proofs.Rings.{power, idr, times_none, opp_none}
 use Rattle.alg_meaning.proofs.Evaluation.{mono_value, mono_value-times, poly_value, poly_value-plus, poly_value-neg, poly_value-term, poly_value-times, poly_value-power}
 use Rattle.alg_meaning.proofs.Carriers.{Carrier, same, zero_at, one_at, add_at, mul_at, opp_at, ring_at, semi_at, int_at, numbering_at, int_below, power_below}
 use Rattle.alg_reify.specs.Preparing.{times_each}
-use Rattle.alg_nsatz.specs.Certificates.{mono_at, poly_at, IsZeroAt, CertificatesHold}
-use Rattle.alg_nsatz.proofs.Primes.{IsPrime, certificate_leads}
+use Rattle.alg_check.specs.Certificates.{mono_at, poly_at, IsZeroAt, CertificatesHold}
+use Rattle.alg_check.proofs.Primes.{IsPrime, certificate_leads}
 
 module _ {E : Type 0} (u : Ghosts E) (s : ℕ) (domain : IsDomain (u.kind s)) (x : ℕ → E) (has : (k : ℕ) →
     u.has s (x k)) where
