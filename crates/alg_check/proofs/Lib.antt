@@ -19,3 +19,4 @@ pub mod NodeEnds
 pub mod NumberTests
 pub mod Fields
 pub mod Few
+pub mod Right

@@ -1,7 +1,8 @@
 -- Laws of checking.
-use Rattle.std.specs.Prelude.{◌≡◌, ◌<◌, ℕ, List, [], length, Option}
+use Rattle.std.specs.Prelude.{◌≡◌, ◌<◌, ℕ, ℤ, List, [], Option, Some, length}
 use Rattle.alg_terms.specs.declared.file.File.{File}
 use Rattle.alg_terms.specs.declared.goals.Goal.{Goal}
+use Rattle.alg_terms.specs.declared.term.Term.{Term}
 use Rattle.alg_terms.specs.Members.{goal_at, sort_at}
 use Rattle.alg_terms.specs.Valid.{IsValid}
 use Rattle.alg_universe.specs.declared.universe.Universe.{Ghosts}
@@ -32,3 +33,19 @@ abbrev pub OneReport : Type 0
 OneReport =
     (file : File) (goal : Goal) (answer : Option Answer) (r s : GoalCheck) → IsReport file goal answer r →
     IsReport file goal answer s → r ≡ s
+
+-- the conditions and the constants that are printed with an answer
+abbrev pub printed_conditions : Answer → List Term
+printed_conditions (Answer.Proved conditions) = conditions
+printed_conditions _ = []
+
+abbrev pub printed_constants : Answer → List ℤ
+printed_constants (Answer.Certified numbers cert) = numbers
+printed_constants _ = []
+
+-- each goal of a valid file that is reported proved is right, under what is printed with its answer
+abbrev pub ProvedIsRight : {E : Type 0} → Ghosts E → Type 0
+ProvedIsRight u =
+    (file : File) (i : ℕ) (answer : Answer) → IsValid file → i < length file.goals →
+    IsReport file (goal_at file i) (Some answer) GoalCheck.OkProved →
+    IsRight u file i (printed_conditions answer) (printed_constants answer)

@@ -5,6 +5,6 @@ pub mod Preparing
 pub mod Answers
 pub mod Fields
 pub mod Reports
-pub mod Laws
 pub mod Certificates
 pub mod Certified
+pub mod Laws

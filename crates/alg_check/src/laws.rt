@@ -1,7 +1,7 @@
-//! What good certificates say. The functions do nothing: their contracts are the laws.
+//! What reports and good certificates say. The functions do nothing: their contracts are the laws.
 
 ghost use Rattle.alg_check.specs.Certificates.{CertificatesHold};
-ghost use Rattle.alg_check.specs.Laws.{CertifiedIsRight, OneAcceptance, OneReport};
+ghost use Rattle.alg_check.specs.Laws.{CertifiedIsRight, OneAcceptance, OneReport, ProvedIsRight};
 
 use alg_universe::Universe;
 
@@ -30,4 +30,14 @@ pub fn certified_is_right<U: Universe>()
     ensures { CertifiedIsRight U.Universe }
 {
     alg_meaning::laws::uses::<U>();
+}
+
+/// A goal of a valid file that is reported proved is right in every universe, whoever gave its answer:
+/// its sides are equal where its used hypotheses hold and so do the conditions, or the constants, that
+/// are printed with the answer.
+pub fn proved_is_right<U: Universe>()
+    ensures { ProvedIsRight U.Universe }
+{
+    alg_meaning::laws::equal_numerators::<U>();
+    certified_is_right::<U>();
 }

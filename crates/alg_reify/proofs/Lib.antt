@@ -49,3 +49,4 @@ pub mod FactorOrder
 pub mod FactorLists
 pub mod FieldSides
 pub mod UnitPolynomials
+pub mod Right

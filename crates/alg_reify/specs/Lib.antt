@@ -17,4 +17,5 @@ pub mod MadeSides
 pub mod FieldLaws
 pub mod Stops
 pub mod Laws
+pub mod RightLaws
 pub mod Tried
