@@ -1,3 +1,5 @@
 pub mod Answered
 pub mod Commands
+pub mod NoneUpTo
+pub mod Places
 pub mod Writing
