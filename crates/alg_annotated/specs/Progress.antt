@@ -6,38 +6,38 @@ use Rattle.alg_reader.specs.declared.place.Place.{Place}
 use Rattle.alg_reader.specs.declared.place.Place.TheVariants.{Start, AfterGoal}
 use Rattle.alg_reify.specs.Table.{goal_atoms}
 use Rattle.alg_annotated.specs.declared.progress.Open.{Open}
-use Rattle.alg_annotated.specs.declared.progress.Open.TheVariants as open
+use Rattle.alg_annotated.specs.declared.progress.Open.TheVariants as opens
 use Rattle.alg_annotated.specs.declared.progress.Progress.{Progress}
 use Rattle.alg_annotated.specs.Reading.{SoFar}
 use Rattle.alg_annotated.specs.Rules.{last_goal}
 
 -- the answer to the last goal, where that is open
 abbrev pub answers_open : Open → List (Option Answer)
-answers_open open.Nothing = []
-answers_open open.Goal = None ∷ []
-answers_open (open.Answer answered) = Some answered.answer ∷ []
+answers_open opens.Nothing = []
+answers_open opens.Goal = None ∷ []
+answers_open (opens.Answer answered) = Some answered.answer ∷ []
 
 -- the place of the next statement
 abbrev pub place_of : Open → Place
-place_of open.Nothing = Start
-place_of open.Goal = AfterGoal
-place_of (open.Answer answered) = answered.place
+place_of opens.Nothing = Start
+place_of opens.Goal = AfterGoal
+place_of (opens.Answer answered) = answered.place
 
 -- what is held, as what the text is so far
 abbrev pub so_far : Progress → SoFar
 so_far now = record {
   file = now.declared;
-  answers = now.answers.items ++ answers_open now.open;
-  place = place_of now.open;
+  answers = now.answers.items ++ answers_open now.last;
+  place = place_of now.last;
 }
 
 -- the atoms beside an open answer are those of the last goal
 abbrev pub HasTable : File → Open → Type 0
-HasTable file open.Nothing = Unit {0}
-HasTable file open.Goal = Unit {0}
-HasTable file (open.Answer answered) = unwrap_or answered.atoms [] ≡ goal_atoms file (last_goal file)
+HasTable file opens.Nothing = Unit {0}
+HasTable file opens.Goal = Unit {0}
+HasTable file (opens.Answer answered) = unwrap_or answered.atoms [] ≡ goal_atoms file (last_goal file)
 
 -- each goal has an answer or none, and an open answer has the goal's table
 pub record IsSound (now : Progress) : Type 0 where
   pub count : length (so_far now).answers ≡ length now.declared.goals
-  pub table : HasTable now.declared now.open
+  pub table : HasTable now.declared now.last

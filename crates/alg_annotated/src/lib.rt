@@ -9,6 +9,7 @@ mod annotated;
 mod answers;
 mod atoms;
 mod certificates;
+pub mod laws;
 mod monomials;
 mod names;
 mod progress;

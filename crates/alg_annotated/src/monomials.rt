@@ -5,7 +5,7 @@ ghost use Rattle.alg_mono.specs.Monomials.{MAX_DEGREE};
 ghost use Rattle.alg_reader.specs.RawMonos.{names_in_factor};
 ghost use Rattle.alg_reader.specs.WellRead.{IsNameAt, IsWellMono};
 ghost use Rattle.alg_typing.specs.Faults.{first_of};
-ghost use Rattle.alg_annotated.specs.Monomials.{exponent_of, written_degree, factor_names, mono_names, factor_atom, factor_fault, mono_faults, pairs_of, monomial_of};
+ghost use Rattle.alg_annotated.specs.Monomials.{exponent_of, factors_of, written_degree, factor_names, mono_names, factor_atom, factor_fault, mono_faults, pairs_of, monomial_of};
 
 use crate::atoms::{find, names_of};
 use crate::scope::Scope;

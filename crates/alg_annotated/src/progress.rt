@@ -1,6 +1,6 @@
 //! What an annotated text is so far, and with one more statement.
 
-ghost use Rattle.std.specs.Prelude.{◌≡◌, ◌≤◌, ◌<◌, ◌++◌, [], ℕ, length, unwrap_or, None, Some, IfOk, IfErr};
+ghost use Rattle.std.specs.Prelude.{◌≡◌, ◌≤◌, ◌<◌, ◌++◌, ◌∷◌, [], ℕ, length, unwrap_or, None, Some, IfOk, IfErr};
 ghost use Rattle.alg_terms.specs.Limits.{MAX_TEXT};
 ghost use Rattle.alg_terms.specs.Valid.{IsValid};
 ghost use Rattle.alg_reader.specs.Places.{MayStand};
@@ -51,7 +51,7 @@ pub(crate) enum Open {
 pub(crate) struct Progress {
     declared: Declared,
     answers: Vec<Option<Answer>>,
-    open: Open,
+    last: Open,
 }
 
 /// The place behind an answer.
@@ -86,17 +86,31 @@ fn place_behind_part(place: Place, kind: &RawKind) -> Place
     }
 }
 
-/// The answers to all goals so far, the last one with what is open.
-fn closed(answers: Vec<Option<Answer>>, open: Open) -> Result<Vec<Option<Answer>>, NoMemory>
-    ensures { IfOk result (λ all. all.items ≡ answers.items ++ answers_open open) }
+/// The answers with one more.
+fn with_answer(
+    answers: Vec<Option<Answer>>,
+    answer: Option<Answer>,
+) -> Result<Vec<Option<Answer>>, NoMemory>
+    ensures { IfOk result (λ all. all.items ≡ answers.items ++ answer ∷ []) }
 {
-    let mut answers = answers;
-    match open {
-        Open::Nothing => {}
-        Open::Goal => answers.push(None)?,
-        Open::Answer(Answered { answer, .. }) => answers.push(Some(answer))?,
+    let mut all = answers;
+    all.push(answer)?;
+    Ok(all)
+}
+
+/// The answers to all goals so far, with what is open of the last one.
+fn closed(answers: Vec<Option<Answer>>, last: Open) -> Result<Vec<Option<Answer>>, NoMemory>
+    ensures { IfOk result (λ all. all.items ≡ answers.items ++ answers_open last) }
+{
+    match last {
+        Open::Nothing => Ok(answers),
+        Open::Goal => with_answer(answers, None),
+        Open::Answer(answered) => {
+            let Answered { atoms, place: _, answer } = answered;
+            drop(atoms);
+            with_answer(answers, Some(answer))
+        }
     }
-    Ok(answers)
 }
 
 impl Progress {
@@ -108,15 +122,15 @@ impl Progress {
         Progress {
             declared: Declared::new(alloc),
             answers: Vec::new(alloc),
-            open: Open::Nothing,
+            last: Open::Nothing,
         }
     }
 
     /// The place of the next statement.
     pub(crate) fn place(&self) -> Place
-        ensures { result ≡ place_of self.now.open }
+        ensures { result ≡ place_of self.now.last }
     {
-        match &self.open {
+        match &self.last {
             Open::Nothing => Place::Start,
             Open::Goal => Place::AfterGoal,
             Open::Answer(answered) => answered.place,
@@ -128,8 +142,8 @@ impl Progress {
         ensures ok { IfOk result (λ all. all ≡ annotated_of (so_far self)) }
         ensures valid { IfOk result (λ all. IsValid all.file) }
     {
-        let Progress { declared, answers, open } = self;
-        let answers = closed(answers, open)?;
+        let Progress { declared, answers, last } = self;
+        let answers = closed(answers, last)?;
         Ok(Annotated {
             file: declared.into_file(),
             answers: Seq::from_vec(answers),
@@ -141,7 +155,7 @@ impl Progress {
     pub(crate) fn with_statement(self, alloc: Global, text: &str, raw: Raw) -> Result<Progress, FileEnd>
         requires size { length text.now ≤ MAX_TEXT }
         requires well_read { (at : ℕ) × IsWellRead text.now at raw }
-        requires may_stand { MayStand (place_of self.open) raw.kind }
+        requires may_stand { MayStand (place_of self.last) raw.kind }
         requires room { ¬ (IsAnswerPart raw.kind) → HasRoom self.declared raw.kind }
         requires sound { IsSound self }
         ensures ok { IfOk result (λ now. (texts.first_fault self.declared text.now raw ≡ None)
@@ -178,14 +192,14 @@ impl Progress {
         ensures refused { IfErr result
             (λ end. RefusesWith end (λ fault. texts.first_fault self.declared text.now raw ≡ Some fault)) }
     {
-        let Progress { mut declared, answers, open } = self;
-        let answers = closed(answers, open)?;
-        let open = match &raw.kind {
+        let Progress { mut declared, answers, last } = self;
+        let answers = closed(answers, last)?;
+        let last = match &raw.kind {
             RawKind::Goal { .. } => Open::Goal,
             _ => Open::Nothing,
         };
         declared.add(alloc, text, raw)?;
-        Ok(Progress { declared, answers, open })
+        Ok(Progress { declared, answers, last })
     }
 
     /// With an answer to the last goal.
@@ -197,7 +211,7 @@ impl Progress {
         said: &RawAnswer,
     ) -> Result<Progress, FileEnd>
         requires well_read { IsWellKind text.now raw.now.kind }
-        requires may_stand { MayStand (place_of self.open) raw.now.kind }
+        requires may_stand { MayStand (place_of self.last) raw.now.kind }
         requires said { raw.now.kind ≡ raws.Answer said.now }
         requires sound { IsSound self }
         ensures ok { IfOk result (λ now. (texts.first_fault self.declared text.now raw.now ≡ None)
@@ -206,7 +220,7 @@ impl Progress {
         ensures refused { IfErr result
             (λ end. RefusesWith end (λ fault. texts.first_fault self.declared text.now raw.now ≡ Some fault)) }
     {
-        let Progress { declared, answers, open: _ } = self;
+        let Progress { declared, answers, last: _ } = self;
         let scope = Scope {
             declared: &declared,
             text,
@@ -224,14 +238,14 @@ impl Progress {
         Ok(Progress {
             declared,
             answers,
-            open: Open::Answer(answered),
+            last: Open::Answer(answered),
         })
     }
 
     /// With a line or a step of the certificate of the last answer.
     fn with_part(self, alloc: Global, text: &str, raw: &Raw) -> Result<Progress, FileEnd>
         requires well_read { IsWellKind text.now raw.now.kind }
-        requires may_stand { MayStand (place_of self.open) raw.now.kind }
+        requires may_stand { MayStand (place_of self.last) raw.now.kind }
         requires part { IsLineOrStep raw.now.kind }
         requires sound { IsSound self }
         ensures ok { IfOk result (λ now. (texts.first_fault self.declared text.now raw.now ≡ None)
@@ -240,14 +254,14 @@ impl Progress {
         ensures refused { IfErr result
             (λ end. RefusesWith end (λ fault. texts.first_fault self.declared text.now raw.now ≡ Some fault)) }
     {
-        let Progress { declared, answers, open } = self;
-        match open {
+        let Progress { declared, answers, last } = self;
+        match last {
             Open::Answer(answered) => {
                 let answered = answered.with_part(alloc, Scope { declared: &declared, text }, raw)?;
                 Ok(Progress {
                     declared,
                     answers,
-                    open: Open::Answer(answered),
+                    last: Open::Answer(answered),
                 })
             }
             _ => unreachable!(),
