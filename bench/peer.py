@@ -36,7 +36,7 @@ from second.prover import prove
 TOP = os.path.dirname(os.path.dirname(os.path.abspath(__file__)))
 BUILT = f"{TOP}/crates/alg_cli/out/alg_cli"
 DIFFERENCES = os.path.join(tempfile.gettempdir(), "peer_differences")
-AT_ONCE = 2_000
+AT_ONCE = 10_000
 SHOWN = 200
 
 USAGES = (
