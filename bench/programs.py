@@ -9,6 +9,8 @@ import tempfile
 HERE = os.path.dirname(os.path.abspath(__file__))
 SECONDS = 60
 SECONDS_OF_BATCH = 1_500
+BYTES_OF_BATCH = 400_000
+TOO_MUCH = b"the program wrote more than"
 HEAD = re.compile(rb"(\d+) (\d+)\n")
 
 
@@ -42,6 +44,17 @@ def batch(runs):
         yield piece(data)
 
 
+def first_of(numbers, runs):
+    """So many of the runs as may be tried at once, since what is written has a limit."""
+    total, chosen = 0, []
+    for k in numbers:
+        total += len(runs[k][1]) + 40
+        if total > BYTES_OF_BATCH:
+            break
+        chosen.append(k)
+    return chosen
+
+
 class Tried:
     """A checkout that is run before its proof, by a program that does many runs at once."""
 
@@ -65,10 +78,19 @@ class Tried:
                 file.write(text.replace("#[cfg(test)]\nmod tests;\n", ""))
 
     def answers(self, runs):
-        """What is written and the exit status; a run at which the program stops has status None."""
-        found = []
-        while len(found) < len(runs):
-            found += self.answers_to_some(runs[len(found) :])
+        """What is written and the exit status.
+
+        The status is None for a run at which the program stops, and the answer is None for a file
+        that is too great to be tried.
+        """
+        found = [None] * len(runs)
+        small = [k for k, (_, data) in enumerate(runs) if len(data) < BYTES_OF_BATCH // 4]
+        while small:
+            numbers = first_of(small, runs)
+            some = self.answers_to_some([runs[k] for k in numbers])
+            for k, answer in zip(numbers, some):
+                found[k] = answer
+            small = small[len(some) :]
         return found
 
     def answers_to_some(self, runs):
@@ -77,9 +99,11 @@ class Tried:
         done = subprocess.run(command, cwd=self.folder, input=b"".join(batch(runs)), capture_output=True)
         found = []
         at = 0
-        while head := HEAD.match(done.stdout, at):
+        while (head := HEAD.match(done.stdout, at)) and head.end() + int(head[2]) <= len(done.stdout):
             at = head.end() + int(head[2])
             found.append((done.stdout[head.end() : at], int(head[1])))
         if not found and b"run=none" in done.stderr:
             raise RuntimeError(done.stderr.decode())
-        return found if len(found) == len(runs) else [*found, (done.stderr[-300:], None)]
+        if len(found) == len(runs) or (found and TOO_MUCH in done.stderr):
+            return found
+        return [*found, (done.stderr[-300:], None)]
