@@ -3,12 +3,13 @@
 
 Run from anywhere: bench/peer.py [COUNT] [SEED] [PROGRAM] [FAMILY ..]. Where no program is named, or
 it is `.`, it is the one that `./alg` runs, which is built first where it is out of date. Where
-PROGRAM is a folder, its checkout is run before its proof, by `rt try`. The bytes of each file are
-given to the program and to `second.program.run`, and what is written and the exit status are
-compared: first files with known answers, then each family, the last two of which have COUNT
-generated files (2,000 where none is given). A generated file depends on its number and on SEED
-alone. A file on which the two differ is kept in the folder peer_differences of the temporary
-folder. The exit status is 1 where some file differs.
+PROGRAM is a folder, its checkout is run before its proof, by `rt try`, on at most COUNT files of
+each family, spread over it. The bytes of each file are given to the program and to
+`second.program.run`, and what is written and the exit status are compared: first files with known
+answers, then each family, the last two of which have COUNT generated files (2,000 where none is
+given). A generated file depends on its number and on SEED alone. A file on which the two differ is
+kept in the folder peer_differences of the temporary folder. The exit status is 1 where some file
+differs.
 """
 
 import os
@@ -36,7 +37,7 @@ from second.prover import prove
 TOP = os.path.dirname(os.path.dirname(os.path.abspath(__file__)))
 BUILT = f"{TOP}/crates/alg_cli/out/alg_cli"
 DIFFERENCES = os.path.join(tempfile.gettempdir(), "peer_differences")
-AT_ONCE = 2_000
+AT_ONCE = 10_000
 SHOWN = 200
 
 USAGES = (
@@ -92,6 +93,7 @@ class Comparison:
         self.program = program
         self.differ = 0
         self.unfinished = 0
+        self.not_tried = 0
         self.came = Counter()
 
     def compare(self, runs):
@@ -102,6 +104,9 @@ class Comparison:
                 self.compare_one(one, first)
 
     def compare_one(self, one, first):
+        if first is None:
+            self.not_tried += 1
+            return
         try:
             second = run(one.words, one.data)
         except Unfinished:
@@ -128,7 +133,7 @@ class Comparison:
         for came, count in sorted(self.came.items()):
             print(f"{count:8} {came}")
         agree = sum(self.came.values())
-        print(f"{agree} agree, {self.differ} differ, {self.unfinished} unfinished")
+        print(f"{agree} agree, {self.differ} differ, {self.unfinished} unfinished, {self.not_tried} not tried")
 
 
 def known_runs():
@@ -167,6 +172,12 @@ def runs_of(family, count, seed):
             yield Run(f"{family} {number}", words, data)
 
 
+def spread(runs, count):
+    """So many of the runs, spread over them."""
+    runs = list(runs)
+    return [runs[k * len(runs) // count] for k in range(count)] if len(runs) > count else runs
+
+
 def program_named(name):
     if name == ".":
         subprocess.run([f"{TOP}/alg", "prove"], stdin=subprocess.DEVNULL, check=True)
@@ -177,7 +188,10 @@ def program_named(name):
 def main(count="2000", seed="0", program=".", *families):
     comparison = Comparison(program_named(program))
     for family in families or ["known", *PROVED, *CHECKED, *GENERATED]:
-        comparison.compare(runs_of(family, int(count), seed))
+        runs = runs_of(family, int(count), seed)
+        if isinstance(comparison.program, Tried):
+            runs = iter(spread(runs, int(count)))
+        comparison.compare(runs)
     comparison.summary()
     return 1 if comparison.differ else 0
 

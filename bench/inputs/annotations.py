@@ -96,7 +96,7 @@ def an_answer(rng, statements):
 def put_number(rng, statements):
     """Another number in an answer: a near one, or one at a limit."""
     statement = an_answer(rng, statements)
-    places = [k for k, token in enumerate(statement) if token.isdigit()]
+    places = [k for k, token in enumerate(statement) if token.isascii() and token.isdigit()]
     if not places:
         return
     k = rng.choice(places)
