@@ -1,14 +1,11 @@
 -- What the answers in a reply say.
-use Rattle.std.proofs.Common.{◌≡◌, ◌<◌, ◌≤◌, ℕ, inr, Result, Ok, Err, zero, suc, List, [], ◌∷◌, length, Some, subst, arith}
-use Rattle.std.specs.Prelude.{slice_get, slice_index_or, IfOk}
-use Rattle.std.specs.List.{AllZip}
+use Rattle.std.proofs.Common.{◌≤◌, ℕ, inr, Result, Ok, Err, List, length}
+use Rattle.std.specs.Prelude.{IfOk}
 use Rattle.alg_lines.specs.declared.answer.Answer.{Answer}
 use Rattle.alg_lines.specs.declared.answer.Answer.TheVariants.{Proved, Certified, No}
 use Rattle.alg_terms.specs.declared.file.File.{File}
-use Rattle.alg_terms.specs.declared.goals.Goal.{Goal}
-use Rattle.alg_terms.specs.Members.{no_goal}
 use Rattle.alg_terms.specs.Valid.{IsValid}
-use Rattle.alg_prover.specs.Answers.{IsAnswer, AreAnswers}
+use Rattle.alg_prover.specs.Answers.{AreAnswers}
 use Rattle.alg_prover.specs.Laws as prover
 use Rattle.alg_universe.specs.declared.universe.Universe.{Ghosts}
 use Rattle.alg_typing.specs.Reading.{IsReadingOf}

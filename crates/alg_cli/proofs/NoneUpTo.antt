@@ -1,7 +1,6 @@
 -- What an answer `none up to power` says of its goal.
-use Rattle.std.specs.Prelude.{◌≡◌, ◌<◌, ℕ, List, length, All, slice_get, Some}
+use Rattle.std.specs.Prelude.{◌≡◌, ℕ, List, All}
 use Rattle.std.proofs.Common.{subst, arith}
-use Rattle.std.specs.Ordering.{nat_cmp}
 use Rattle.alg_terms.specs.declared.file.File.{File}
 use Rattle.alg_terms.specs.declared.goals.Equation.{Equation}
 use Rattle.alg_terms.specs.declared.goals.Method.{Method}
@@ -10,12 +9,8 @@ use Rattle.alg_terms.specs.declared.goals.Use.{Use}
 use Rattle.alg_terms.specs.GoalRules.{IsGoal, IsHyp, IsNsatz, MayBeBy}
 use Rattle.alg_terms.specs.Members.{goal_at, no_goal, uses_of}
 use Rattle.alg_terms.specs.Valid.{IsValid}
-use Rattle.alg_mono.specs.Numbers.{integers}
-use Rattle.alg_mono.specs.NumberedPolynomials.{Polynomial}
-use Rattle.alg_mono.specs.Polynomials.{IsPolynomial}
 use Rattle.alg_lines.specs.declared.answer.Answer.{Answer}
 use Rattle.alg_lines.specs.declared.answer.Answer.TheVariants.{NoneUpTo}
-use Rattle.alg_groebner.specs.State as state
 use Rattle.alg_criterion.specs.Laws.{HasNone, NoneExists}
 use Rattle.alg_reify.specs.FieldVerdict.{FieldVerdict}
 use Rattle.alg_reify.specs.Preparing.{prepared_goal, prepared_hyps}

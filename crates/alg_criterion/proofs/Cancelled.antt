@@ -1,23 +1,22 @@
 -- What the machine's moves make is as the laws need it.
 use Rattle.alg_criterion.proofs.Lists.{led_of}
-use Rattle.std.specs.Prelude.{false, ◌≡◌, ◌≢◌, ℕ, true, not, [], ◌∷◌, ◌++◌, ℤ, pos, ◌*ℤ◌, ◌+ℤ◌}
+use Rattle.std.specs.Prelude.{false, ◌≡◌, ◌≢◌, ℕ, true, not, [], ◌∷◌, ℤ, pos, ◌*ℤ◌, ◌+ℤ◌}
 use Rattle.std.proofs.Common.{refl, sym, ap, subst, ◌∙◌, T, arith}
 use lib.IntN.{neg_ℤ}
 use Rattle.std.specs.Int.RustNames.{unsigned_abs}
 use Rattle.std.specs.Ordering.{nat_cmp}
 use Rattle.std.specs.Cmp.{nat_cmp_total}
 use Rattle.std.specs.FinMap.{nat_cmp-IsAntisymmetric}
-use Rattle.alg_mono.specs.FiniteMaps.{IsCanonical, Each, all_some, products}
+use Rattle.alg_mono.specs.FiniteMaps.{IsCanonical, Each, all_some}
 use Rattle.alg_mono.specs.Numbers.{exponents, integers, is_zero}
 use Rattle.alg_mono.specs.Mono.{Monomial}
 use Rattle.alg_mono.specs.Monomials.{lcm}
-use Rattle.alg_mono.specs.NumberedPolynomials.{Polynomial, before, term_of, multiple_of}
-use Rattle.alg_mono.specs.Polynomials.{poly_neg}
+use Rattle.alg_mono.specs.NumberedPolynomials.{Polynomial}
 use Rattle.alg_mono.proofs.Canonical.{first}
-use Rattle.alg_mono.proofs.Each.{Each-append, Each-collect, Each-keep, Each-neg, Each-products, Each-weaker}
+use Rattle.alg_mono.proofs.Each.{Each-weaker}
 use Rattle.alg_mono.proofs.Lcm.{times_over, exponent-lcm}
-use Rattle.alg_groebner.specs.Cancelling.{left_factor, right_factor, crossed, cancelled, reduced, quotient, left_lift, right_lift, s_polynomial}
-use Rattle.alg_groebner.specs.Divisors.{content, over_number}
+use Rattle.alg_groebner.specs.Cancelling.{crossed, cancelled, reduced, quotient, left_lift, right_lift, s_polynomial}
+use Rattle.alg_groebner.specs.Divisors.{content}
 use Rattle.alg_groebner.specs.Leads.{leading, reduces}
 use Rattle.alg_groebner.proofs.Divisors.{content_divides}
 use Rattle.alg_groebner.proofs.Exact.{exactly}

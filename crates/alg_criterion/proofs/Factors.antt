@@ -1,11 +1,8 @@
 -- The factors that cancel two leading coefficients.
-use Rattle.std.specs.Prelude.{◌≡◌, ◌≢◌, ℕ, zero, suc, ◌*◌, ◌/◌, ◌%◌, ◌<◌, ◌==◌, Bool, true, false, cond, ◌&&◌, List, [], ◌∷◌, ℤ, pos, negsuc, ◌*ℤ◌}
-use Rattle.std.proofs.Common.{refl, sym, ap, ◌∙◌, arith}
-use borrow.Author.Tests.{eqb-true}
-use Rattle.std.specs.List.{list_all}
+use Rattle.std.specs.Prelude.{◌≡◌, ◌≢◌, ℕ, suc, ◌*◌, ◌/◌, ℤ, pos, negsuc, ◌*ℤ◌}
+use Rattle.std.proofs.Common.{sym, ap, ◌∙◌}
 use Rattle.std.specs.Int.{◌∣◌}
 use Rattle.std.specs.Int.RustNames.{unsigned_abs, int_div}
-use Rattle.std.proofs.lemmas.Nat.Gcd.{dvd_of_mod-eq-zero}
 use Rattle.std.proofs.Math.Nat.{mul-div_cancel'}
 use lib.IntN.{neg_ℤ, pos-*ℤ-pos, neg_ℤ-neg_ℤ}
 use Rattle.alg_mono.proofs.Numbers.{*ℤ_comm, *ℤ_assoc}

@@ -35,6 +35,7 @@ pub mod Running
 pub mod Answered
 pub mod Begun
 pub mod Bounded
+pub mod CertificateBounds
 pub mod Coefficients
 pub mod Limited
 pub mod Over

@@ -1,12 +1,12 @@
 -- The certificate of a verdict Proved is within the limits and over the goal's table.
-use Rattle.std.specs.Prelude.{◌≡◌, ◌<◌, ◌≤◌, ◌^◌, ℕ, ℤ, pos, Bool, true, false, cond, List, [], ◌∷◌, ◌++◌, All, Contains, filter, map, length}
+use Rattle.std.specs.Prelude.{◌<◌, ◌≤◌, ◌^◌, ℕ, ℤ, pos, Bool, true, false, cond, List, [], ◌∷◌, ◌++◌, All, Contains, filter, map, length}
 use Rattle.std.specs.Cmp.{nat_cmp_total}
 use Rattle.std.specs.FinMap.{nat_cmp-IsAntisymmetric}
 use Rattle.std.specs.Ordering.{int_cmp, is_lt, nat_cmp}
 use Rattle.std.specs.BTreeSet.{insert_key}
-use Rattle.std.proofs.Common.{sym, subst, ◌∙◌, arith}
+use Rattle.std.proofs.Common.{sym, subst, arith}
 use Rattle.std.proofs.lemmas.List.{get_or_default}
-use Rattle.std.proofs.lemmas.List.Elements.{All-nil, All-cons, All-head, All-tail, All-append, All-get_or, All-weaker}
+use Rattle.std.proofs.lemmas.List.Elements.{All-nil, All-cons, All-head, All-tail, All-append, All-weaker}
 use Rattle.std.proofs.lemmas.Map.Views.{All-insert_key}
 use Rattle.alg_terms.specs.declared.file.File.{File}
 use Rattle.alg_terms.specs.declared.goals.Equation.{Equation}
@@ -36,9 +36,9 @@ use Rattle.alg_groebner.specs.Laws.{CertificatesAreWithin}
 use Rattle.alg_groebner.specs.Within.{IsCertWithin, IsLineWithin, IsMagnitude, IsOver, IsStepWithin}
 use Rattle.alg_groebner.proofs.Over.{over_product}
 use Rattle.alg_reify.specs.Numbered.{number_of, numbered, numbered_monomial}
-use Rattle.alg_reify.specs.Preparing.{difference, equation_differences, goal_difference, is_equation, is_nonzero, nonzero_differences, prepared_goal, prepared_hyps, times_each, used_difference}
+use Rattle.alg_reify.specs.Preparing.{difference, goal_difference, is_equation, is_nonzero, nonzero_differences, prepared_goal, prepared_hyps, times_each, used_difference}
 use Rattle.alg_reify.specs.Table.{MAX_ATOMS, equation_leaves, leaves, table, use_leaves}
-use Rattle.alg_reify.proofs.AtomsIn.{atoms_in, both_parts}
+use Rattle.alg_reify.proofs.AtomsIn.{atoms_in}
 use Rattle.alg_reify.proofs.FractionsIn.{plus_in}
 use Rattle.alg_reify.proofs.Held.{held_sides, held_uses}
 use Rattle.alg_reify.proofs.Images.{Each-image}

@@ -7,6 +7,7 @@
 #![tactic(auto)]
 
 mod answers;
+mod certificates;
 mod file;
 mod monomials;
 mod names;

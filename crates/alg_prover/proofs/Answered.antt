@@ -1,17 +1,15 @@
 -- One answer for each goal, in a loop over the goals.
-use Rattle.std.specs.Prelude.{◌≡◌, ◌<◌, ◌≤◌, ◌+◌, ℕ, zero, suc, List, [], ◌∷◌, ◌++◌, length, take, map, All, Some, None, IfSome, slice_index_or}
+use Rattle.std.specs.Prelude.{◌≡◌, ◌<◌, ◌≤◌, ◌+◌, ℕ, zero, suc, List, [], ◌∷◌, ◌++◌, length, take, map, Some, None, IfSome, slice_index_or}
 use Rattle.std.specs.List.{AllZip}
-use Rattle.std.proofs.Common.{sym, ap, subst, ◌∙◌, arith}
+use Rattle.std.proofs.Common.{sym, subst, ◌∙◌, arith}
 use Rattle.std.proofs.lemmas.List.{length-map, get_or-map, take_more, take_all}
 use Rattle.std.proofs.lemmas.Slice.Zip.{AllZip-long, all_zipped_more}
-use Rattle.std.proofs.lemmas.List.Elements.{All-get_or}
 use Rattle.alg_lines.specs.declared.answer.Answer.{Answer}
 use Rattle.alg_lines.specs.declared.answer.Answer.TheVariants.{Atoms}
 use Rattle.alg_printer.specs.Printable.{ArePrintable, IsPrintable}
 use Rattle.alg_prover.specs.Answers.{IsAnswer, AreAnswers}
 use Rattle.alg_terms.specs.declared.file.File.{File}
 use Rattle.alg_terms.specs.declared.goals.Goal.{Goal}
-use Rattle.alg_terms.specs.GoalRules.{IsGoal}
 use Rattle.alg_terms.specs.Members.{goal_at, no_goal}
 
 -- the answer to a goal, which can be printed below it

@@ -1,6 +1,6 @@
 -- The answers to goals by nsatz can be printed.
-use Rattle.std.specs.Prelude.{◌≡◌, ◌≤◌, ◌<◌, ◌^◌, ℕ, ℤ, List, [], length, All}
-use Rattle.std.proofs.Common.{sym, subst, arith}
+use Rattle.std.specs.Prelude.{◌≡◌, ◌<◌, ◌^◌, ℕ, ℤ, List, length, All}
+use Rattle.std.proofs.Common.{refl, sym, subst, arith}
 use Rattle.std.proofs.lemmas.Int.{ints}
 use Rattle.std.proofs.lemmas.List.Elements.{All-weaker}
 use Rattle.alg_terms.specs.declared.file.File.{File}
@@ -8,6 +8,7 @@ use Rattle.alg_terms.specs.declared.goals.Goal.{Goal}
 use Rattle.alg_terms.specs.declared.goals.Method.{Method}
 use Rattle.alg_terms.specs.declared.goals.Method.TheVariants.{ByRing, ByField, ByNsatz}
 use Rattle.alg_terms.specs.declared.goals.Equation.{Equation}
+use Rattle.alg_terms.specs.declared.goals.Use.{Use}
 use Rattle.alg_terms.specs.declared.term.Atom.{Atom}
 use Rattle.alg_terms.specs.GoalRules.{IsGoal, IsHyp}
 use Rattle.alg_terms.specs.Members.{uses_of}
@@ -20,11 +21,11 @@ use Rattle.alg_lines.specs.declared.cert.Line.{Line}
 use Rattle.alg_groebner.specs.Within.{IsCertWithin, IsLineWithin, IsMagnitude, IsMonoWithin, IsStepWithin}
 use Rattle.alg_nsatz.specs.Laws.{ProvedIsWithin}
 use Rattle.alg_nsatz.specs.Verdict.{NsatzVerdict, IsNsatzVerdict, IsVerdictBy}
-use Rattle.alg_printer.specs.Monomials.{goal_atoms}
-use Rattle.alg_printer.specs.Printable.{IsPrintable, HasForm, HasParts, IsNumeral, IsInteger, IsCount, IsMonomialOver, IsLineOver, IsStepOver, IsCertOver}
+use Rattle.alg_reify.specs.Table.{goal_atoms}
+use Rattle.alg_printer.specs.Printable.{IsPrintable, HasForm, IsNumeral, IsMonomialOver, IsLineOver, IsStepOver, IsCertOver}
 use Rattle.alg_reify.specs.Preparing.{IsByNsatz}
 use Rattle.alg_reify.specs.Table.{table}
-use Rattle.alg_prover.specs.Answers.{IsAnswer, IsAnswerBy, Stops, nsatz_answer_of}
+use Rattle.alg_prover.specs.Answers.{IsAnswer, IsAnswerBy, nsatz_answer_of}
 use Rattle.alg_prover.proofs.Printing.{each_over, few}
 
 -- ---- what is within the limits can be printed
@@ -63,8 +64,8 @@ module _ (atoms : List Atom) where
   }
 
 -- the answers that a goal by nsatz may have
-form : (method : Method) (answer : Answer) → ((uses : List _) (power limit : ℕ) → HasForm (ByNsatz uses power limit) answer) →
-    IsByNsatz method → HasForm method answer
+form : (method : Method) (answer : Answer) →
+    ((uses : List Use) (power limit : ℕ) → HasForm (ByNsatz uses power limit) answer) → IsByNsatz method → HasForm method answer
 form ByRing answer may by = absurd by
 form ByField answer may by = absurd by
 form (ByNsatz uses power limit) answer may by = may uses power limit
@@ -98,7 +99,7 @@ answer_by : (file : File) (e : Equation) (method : Method) (v : NsatzVerdict) �
     IsAnswerBy file e method (nsatz_answer_of v)
 answer_by file e ByRing v h = absurd h
 answer_by file e ByField v h = absurd h
-answer_by file e (ByNsatz uses power limit) v h = (v, h, Rattle.std.proofs.Common.refl)
+answer_by file e (ByNsatz uses power limit) v h = (v, h, refl)
 
 pub answer_is : (file : File) (goal : Goal) (v : NsatzVerdict) → IsNsatzVerdict file goal v →
     IsAnswer file goal (nsatz_answer_of v)

@@ -1,7 +1,7 @@
 use Rattle.std.proofs.Common.{◌++◌, [], ap, flat_map, sym, unwrap_or, ◌∙◌}
 use Rattle.alg_printer.specs.Answers.{cert_text, line_text, power_text, step_text}
 use Rattle.alg_printer.proofs.Pieces.{more, grew}
-use Rattle.alg_printer.proofs.answers.put_cert.Goals as goal
+use Rattle.alg_printer.proofs.certificates.put_cert.Goals as goal
 
 -- the text grew by the power, the lines and the steps
 pub returns : goal.returns

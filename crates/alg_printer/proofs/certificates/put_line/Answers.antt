@@ -2,7 +2,7 @@ use Rattle.std.proofs.Common.{◌++◌, [], codes, refl, rules, unwrap_or, SFits
 use mir.Syntax.{w128}
 use Rattle.alg_printer.specs.Answers.{divisor_text, line_text, multiple_text}
 use Rattle.alg_printer.proofs.Pieces.{more, grew}
-use Rattle.alg_printer.proofs.answers.put_line.Goals as goal
+use Rattle.alg_printer.proofs.certificates.put_line.Goals as goal
 
 -- the text grew by each piece of the line
 pub returns : goal.returns

@@ -3,7 +3,7 @@ use mir.Syntax.{w128}
 use Rattle.std.specs.Fmt.{signed_decimal}
 use Rattle.alg_printer.specs.Answers.{divisor_text, multiple_text, step_text}
 use Rattle.alg_printer.proofs.Pieces.{more, grew}
-use Rattle.alg_printer.proofs.answers.put_step.Goals as goal
+use Rattle.alg_printer.proofs.certificates.put_step.Goals as goal
 
 -- the text grew by each piece of the step
 pub returns : goal.returns
