@@ -9,7 +9,7 @@ import tempfile
 HERE = os.path.dirname(os.path.abspath(__file__))
 SECONDS = 60
 SECONDS_OF_BATCH = 1_500
-BYTES_OF_BATCH = 400_000
+BYTES_OF_BATCH = 300_000
 TOO_MUCH = b"the program wrote more than"
 HEAD = re.compile(rb"(\d+) (\d+)\n")
 
@@ -56,7 +56,10 @@ def first_of(numbers, runs):
 
 
 class Tried:
-    """A checkout that is run before its proof, by a program that does many runs at once."""
+    """A checkout that is run before its proof, by a program that does many runs at once.
+
+    A run before the proof may write 1 MB in all. Where it would write more, nothing of it is told.
+    """
 
     def __init__(self, top):
         self.copy = tempfile.TemporaryDirectory()
@@ -104,6 +107,6 @@ class Tried:
             found.append((done.stdout[head.end() : at], int(head[1])))
         if not found and b"run=none" in done.stderr:
             raise RuntimeError(done.stderr.decode())
-        if len(found) == len(runs) or (found and TOO_MUCH in done.stderr):
-            return found
-        return [*found, (done.stderr[-300:], None)]
+        if TOO_MUCH in done.stderr and len(runs) > 1:
+            return self.answers_to_some(runs[: len(runs) // 2])
+        return found if len(found) == len(runs) else [*found, (done.stderr[-300:], None)]
