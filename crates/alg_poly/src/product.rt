@@ -99,9 +99,9 @@ fn raise(alloc: Global, terms: &[Term], n: u32) -> Result<Vec<Term>, NoMemory>
 
 impl Poly {
     /// The product. Its cost is one product of monomials and one of coefficients for each pair of
-    /// terms, and a number of comparisons and copies that is at most the number of pairs times the
-    /// logarithm of the number of terms of `self`. Beside the result it holds the products of two
-    /// halves of `self` with `other`.
+    /// terms, and a number of comparisons that is at most the number of pairs times the logarithm
+    /// of the number of terms of `self`, so it is less where `self` is the shorter. Beside the
+    /// result it holds the products of two halves of `self` with `other`.
     ///
     /// Where neither is 0, `Range` exactly where the product of the norms is over 2^127 - 1, and
     /// else `Degree` exactly where the degrees add up to more than 1,000.
