@@ -2,18 +2,20 @@
 use Rattle.std.specs.Prelude.{◌≡◌, ◌<◌, ◌≤◌, ◌⊎◌, ℕ, ℤ, Bool, true, false, if◌then◌else◌, List, [], ◌++◌, ◌-◌, length, map, codes, decimal, slice_get, Some, Ok, Err}
 use Rattle.std.specs.List.{list_all, count_by}
 use Rattle.alg_lines.specs.declared.answer.Answer.{Answer}
-use Rattle.alg_lines.specs.declared.answer.Answer.TheVariants.{Proved, Certified, No}
+use Rattle.alg_lines.specs.declared.answer.Answer.TheVariants.{Proved, Certified, No, NoneUpTo}
 use Rattle.alg_lines.specs.declared.cert.Cert.{Cert}
 use Rattle.alg_load.specs.Loaded.{loaded}
 use Rattle.alg_mono.specs.Mono.{Monomial}
 use Rattle.alg_printer.specs.Text.{text_of}
 use Rattle.alg_prover.specs.Answers.{AreAnswers}
 use Rattle.alg_prover.specs.InFree.{DeclaresNoField, ValuesDiffer}
+use Rattle.alg_criterion.specs.Laws.{HasNone}
+use Rattle.alg_reify.specs.Preparing.{prepared_goal, prepared_hyps}
 use Rattle.alg_reify.specs.RingVerdict.{SidesDiffer}
 use Rattle.alg_terms.specs.declared.file.File.{File}
 use Rattle.alg_terms.specs.declared.goals.Method.TheVariants.{ByRing}
 use Rattle.alg_terms.specs.declared.term.Term.{Term}
-use Rattle.alg_terms.specs.Members.{goal_at}
+use Rattle.alg_terms.specs.Members.{goal_at, uses_of}
 use Rattle.alg_tokens.specs.declared.token.Refusal.{Refusal}
 use Rattle.alg_typing.specs.Reading.{IsReadingOf}
 use Rattle.alg_universe.specs.declared.universe.Universe.{Ghosts}
@@ -54,6 +56,15 @@ pub record NoesDiffer (file : File) (answers : List Answer) : Type 0 where
       slice_get answers i ≡ Some (No at left right) → (goal_at file i).method ≡ ByRing →
       ValuesDiffer file (goal_at file i).equation
 
+-- for each goal that is answered `none up to power` no certificate exists: no integer other than 0 times a power of its
+-- prepared polynomial, up to the answer's power, is a sum of integer polynomials times those of its hypotheses
+abbrev pub NonesHaveNone : File → List Answer → Type 0
+NonesHaveNone file answers =
+    (i greatest : ℕ) → slice_get answers i ≡ Some (NoneUpTo greatest) →
+    let e = (goal_at file i).equation in
+    let uses = uses_of (goal_at file i).method in
+    HasNone (prepared_hyps file e uses) (prepared_goal file e uses) greatest
+
 -- the text is the file's with its answers, and the status is that of the answers
 pub record IsFileReply (file : File) (text : List ℕ) (status : Status) : Type 0 where
   pub answers : List Answer
@@ -68,6 +79,7 @@ pub record IsAnswered {E : Type 0} (u : Ghosts E) (bytes text : List ℕ) (statu
   pub reply : IsFileReply file text status
   pub right : ProvedAreRight u file reply.answers
   pub differ : NoesDiffer file reply.answers
+  pub none : NonesHaveNone file reply.answers
 
 -- the bytes are no file, and the text is their first fault
 pub record IsRefused (bytes text : List ℕ) (status : Status) : Type 0 where

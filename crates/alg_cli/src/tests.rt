@@ -1,9 +1,12 @@
 //! Runs of the top call, each over memory.
 
 mod by_field;
+mod by_nsatz;
 mod failing_ends;
 mod loads;
+mod nsatz_limits;
 mod rows;
+mod whole_files;
 
 use crate::laws::reads_back;
 use crate::status::Status;
@@ -46,7 +49,12 @@ fn prove_run(alloc: Global, input: Vec<u8>) -> Result<(Vec<u8>, Status), Fail> {
 
 #[test]
 fn each_goal_is_written_back_with_its_answer(rt: HostRuntime) -> Result<(), Fail> {
-    for rows in [ANSWERED.as_slice(), by_field::ANSWERED.as_slice()] {
+    for rows in [
+        ANSWERED.as_slice(),
+        by_field::ANSWERED.as_slice(),
+        by_nsatz::ANSWERED.as_slice(),
+        nsatz_limits::ANSWERED.as_slice(),
+    ] {
         for row in rows {
             let input = joined(rt.alloc(), row.file, "")?;
             let (output, status) = prove_run(rt.alloc(), input)?;
@@ -61,7 +69,11 @@ fn each_goal_is_written_back_with_its_answer(rt: HostRuntime) -> Result<(), Fail
 
 #[test]
 fn files_and_faults_are_told(rt: HostRuntime) -> Result<(), Fail> {
-    for rows in [ROWS.as_slice(), by_field::ROWS.as_slice()] {
+    for rows in [
+        ROWS.as_slice(),
+        by_field::ROWS.as_slice(),
+        by_nsatz::ROWS.as_slice(),
+    ] {
         for row in rows {
             let (output, status) = prove_run(rt.alloc(), row.input.to_vec(rt.alloc())?)?;
             let shows = row.shows;

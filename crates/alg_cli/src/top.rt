@@ -5,7 +5,6 @@ ghost use Rattle.alg_outside.specs.Bytes.{IsReadToEnd};
 ghost use Rattle.alg_outside.specs.Faults.{Rose};
 ghost use Rattle.alg_outside.specs.declared.whole.ReadEnd.TheVariants.{Fault, TooLarge};
 ghost use Rattle.alg_terms.specs.Valid.{IsValid};
-ghost use Rattle.alg_terms.specs.GoalRules.{IsRingOrField};
 ghost use Rattle.alg_cli.specs.Commands.{command_of, AsksForFew, ReadsInput, bytes_for, most_bytes};
 ghost use Rattle.alg_cli.specs.Runs.{IsReply, IsFailure, IsStatusOf, WritesByStatus, WritesAll, WritesPrefix, RepliesUnlessNoMemory, change};
 ghost use Rattle.alg_cli.specs.Replies.{IsReplyTo, IsFileReply};
@@ -142,6 +141,7 @@ fn proved<U: Universe>(alloc: Global, bytes: &[u8]) -> Result<Reply, AllocError>
 {
     alg_prover::laws::proved_is_right::<U>();
     alg_prover::laws::no_differs();
+    alg_criterion::laws::none_exists();
     match read_file(alloc, bytes) {
         Ok(file) => answered(alloc, &file),
         Err(FileEnd::NoMemory) => Err(AllocError),
@@ -154,8 +154,7 @@ fn proved<U: Universe>(alloc: Global, bytes: &[u8]) -> Result<Reply, AllocError>
 
 /// The file with the answers to its goals.
 fn answered(alloc: Global, file: &File) -> Result<Reply, AllocError>
-    requires valid { IsValid file.now }
-    requires methods { All (λ goal. IsRingOrField goal.method) file.now.goals }
+    requires { IsValid file.now }
     ensures reply { IfOk result (λ reply. IsFileReply file.now reply.text.items reply.status) }
     ensures status { IfOk result (λ reply. IsStatusOf Command.Prove reply.status) }
 {

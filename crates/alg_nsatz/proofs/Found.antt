@@ -39,7 +39,7 @@ kept_length p f (u ∷ uses) = at (p u) (kept_length p f uses)
 
 -- the limits of a search
 pub record IsSmall (t : Task) : Type 0 where
-  pub few : length t.hyps.items < 2 ^ 31
+  pub few : length t.hyps < 2 ^ 31
   pub powers : t.power ≤ 16
   pub limited : t.limit ≤ 1000000
 
@@ -65,7 +65,7 @@ small file goal t is h = small_by file goal.equation goal.method t is.method h
 -- ---- the search of a task is that of its goal
 module _ (file : File) (e : Equation) (uses : List Use) (power limit : ℕ) (t : Task)
     (is : IsPrepared file e uses t) (same_power : t.power ≡ power) (same_limit : t.limit ≡ limit) where
-  moved : (last : State) (end : End) → Comes t.hyps.items t.goal t.power t.limit last end →
+  moved : (last : State) (end : End) → Comes t.hyps t.goal t.power t.limit last end →
       SearchEnds file e uses power limit last end
   moved last end comes = (
     is.fine,
@@ -75,7 +75,7 @@ module _ (file : File) (e : Equation) (uses : List Use) (power limit : ℕ) (t :
         (subst (λ hyps. Comes hyps t.goal t.power t.limit last end) is.hyps comes))),
   )
 
-  ended : (end : End) → ComesTo t.hyps.items t.goal t.power t.limit end → SearchComesTo file e uses power limit end
+  ended : (end : End) → ComesTo t.hyps t.goal t.power t.limit end → SearchComesTo file e uses power limit end
   ended end h = (h.0, moved h.0 end h.1)
 
   found_of : (a : NsatzAnswer) → Answers t (sort_at file e.sort).char0 (Ok a) →

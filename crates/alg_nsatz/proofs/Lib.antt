@@ -4,6 +4,7 @@ pub mod Found
 pub mod Made
 pub mod NormsSome
 pub mod OneVerdict
+pub mod Within
 pub mod Tasks
 pub mod Turns
 pub mod ConstantsOf

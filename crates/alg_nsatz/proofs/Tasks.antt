@@ -60,7 +60,7 @@ module _ (file : File) (e : Equation) (uses : List Use) (small : length (table f
 
       -- all was made
       pub prepared : (t : Task) → product_outcome (first ∷ rest) ≡ Outcome.Fine → t.atoms ≡ length atoms →
-          t.hyps.items ≡ equation_differences file atoms uses → t.goal ≡ times_each first rest →
+          t.hyps ≡ equation_differences file atoms uses → t.goal ≡ times_each first rest →
           IsPrepared file e uses t
       prepared t product_fine count hyps goal = record {
         fine = (small, sym prepared_is ∙ product_fine);

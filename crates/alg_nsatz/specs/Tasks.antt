@@ -21,7 +21,7 @@ module _ (file : File) (e : Equation) (uses : List Use) where
   pub record IsPrepared (t : Task) : Type 0 where
     pub fine : PreparesTo Outcome.Fine
     pub atoms : t.atoms ≡ length (table file e uses)
-    pub hyps : t.hyps.items ≡ prepared_hyps file e uses
+    pub hyps : t.hyps ≡ prepared_hyps file e uses
     pub goal : t.goal ≡ prepared_goal file e uses
 
   -- there are too many atoms, or the first polynomial that breaks a rule breaks this one; want of memory says nothing

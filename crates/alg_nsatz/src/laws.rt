@@ -1,7 +1,7 @@
 //! What holds of the verdicts by nsatz. The functions do nothing: their contracts are the laws.
 
 ghost use Rattle.alg_nsatz.specs.Certificates.{CertificatesHold};
-ghost use Rattle.alg_nsatz.specs.Laws.{OneNsatzVerdict, ProvedIsRight};
+ghost use Rattle.alg_nsatz.specs.Laws.{OneNsatzVerdict, ProvedIsRight, ProvedIsWithin};
 
 use alg_universe::Universe;
 
@@ -10,6 +10,14 @@ pub fn one_nsatz_verdict()
     ensures { OneNsatzVerdict }
 {
     alg_groebner::laws::one_end();
+}
+
+/// The certificate of a verdict Proved has numbers and monomials within the limits, over the atoms of
+/// the goal's table, and its constants are within the limit on norms.
+pub fn proved_is_within()
+    ensures { ProvedIsWithin }
+{
+    alg_groebner::laws::certificates_are_within();
 }
 
 /// Where a certificate is good and the hypotheses are zero at elements of a domain or a field, and none

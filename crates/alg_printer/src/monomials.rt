@@ -89,7 +89,7 @@ pub(crate) fn put_monomial(
 }
 
 /// Factors with `*` between.
-fn put_factors(
+pub(crate) fn put_factors(
     text: &mut Text,
     file: &File,
     atoms: &Option<Atoms>,

@@ -1,4 +1,5 @@
 pub mod Answered
+pub mod Certificates
 pub mod Examples
 pub mod InFree
 pub mod Printing

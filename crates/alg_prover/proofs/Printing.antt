@@ -28,12 +28,12 @@ use Rattle.alg_terms.specs.GoalRules.{IsEquation, IsGoal}
 use Rattle.alg_terms.specs.Members.{uses_of}
 
 -- the atoms of a monomial are among as many
-each_over : (atoms : List Atom) (m : Monomial) → Each (λ k. k < length atoms) m → IsOverAtoms atoms m
+pub each_over : (atoms : List Atom) (m : Monomial) → Each (λ k. k < length atoms) m → IsOverAtoms atoms m
 each_over atoms [] h = All-nil (λ (e : ℕ × ℕ). e.0 < length atoms)
 each_over atoms (e ∷ m) h = All-cons (λ (e : ℕ × ℕ). e.0 < length atoms) e m h.0 (each_over atoms m h.1)
 
 -- a table of few atoms is one of a goal's answer
-few : (atoms : List Atom) → length atoms ≤ MAX_ATOMS → (if nat_le (length atoms) MAX_ATOMS then atoms else []) ≡ atoms
+pub few : (atoms : List Atom) → length atoms ≤ MAX_ATOMS → (if nat_le (length atoms) MAX_ATOMS then atoms else []) ≡ atoms
 few atoms small = ap (λ b. if b then atoms else []) (le-leb (length atoms) MAX_ATOMS small)
 
 -- the atoms of the answer to a goal without uses are those of its equation

@@ -11,6 +11,7 @@ pub fn one_answer()
 {
     alg_reify::laws::one_ring_verdict();
     alg_reify::laws::one_field_verdict();
+    alg_nsatz::laws::one_nsatz_verdict();
 }
 
 /// A goal that is answered proved is right in every universe, at all values at which its used
@@ -21,6 +22,7 @@ pub fn proved_is_right<U: Universe>()
 {
     alg_ring::laws::proved_is_right::<U>();
     alg_field::laws::proved_is_right::<U>();
+    alg_nsatz::laws::proved_is_right::<U>();
 }
 
 /// The sides of a goal by ring that is answered no are different polynomials: at the monomial of the

@@ -1,5 +1,5 @@
 -- From the tokens of a statement and where the grammar is stuck to the first fault of the text.
-use Rattle.std.proofs.Common.{◌≡◌, ◌≢◌, ℕ, List, [], ◌∷◌, ◌++◌, ◌⊎◌, inl, inr, refl, ap, sym, ◌∙◌, subst, append_assoc, append-nil, None, Err}
+use Rattle.std.proofs.Common.{◌≡◌, ◌≢◌, ℕ, List, [], ◌∷◌, ◌++◌, ◌⊎◌, inl, inr, refl, ap, sym, ◌∙◌, subst, append_assoc, append-nil, Err}
 use Rattle.alg_tokens.specs.declared.code.Code.TheVariants as code
 use Rattle.alg_tokens.specs.declared.token.Token.{Token}
 use Rattle.alg_tokens.specs.declared.token.Refusal.{Refusal}

@@ -1,5 +1,5 @@
 -- What the rules of uses and of the options of nsatz make of what their parts mean.
-use Rattle.std.proofs.Common.{◌≡◌, ℕ, inl, inr, List, [], ◌∷◌, ◌++◌, ◌≤◌, length, length-append, refl, ap, sym, ◌∙◌, subst, arith}
+use Rattle.std.proofs.Common.{◌≡◌, ℕ, inl, inr, List, [], ◌∷◌, ◌++◌, ◌≤◌, length, length-append, ap, sym, ◌∙◌, subst, arith}
 use Rattle.std.specs.List.{AllByRecursion}
 use Rattle.alg_tokens.specs.declared.token.Token.{Token}
 use Rattle.alg_tokens.specs.declared.token.Sign.TheVariants as signs

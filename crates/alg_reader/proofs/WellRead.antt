@@ -1,5 +1,5 @@
 -- What was read is well read.
-use Rattle.std.proofs.Common.{◌≡◌, ◌≤◌, ◌+◌, ℕ, nat_lt, inl, inr, Bool, true, false, cond, List, [], ◌∷◌, ◌++◌, length, length-append, refl, ap, sym, ◌∙◌, subst, arith, Option, Some, None, is_none, pos, ◌≤ℤ◌}
+use Rattle.std.proofs.Common.{◌≡◌, ◌≤◌, ℕ, nat_lt, inl, inr, true, false, cond, List, [], ◌∷◌, length, refl, ap, sym, ◌∙◌, subst, arith, None, pos, ◌≤ℤ◌}
 use Rattle.std.specs.List.{AllByRecursion}
 use Rattle.std.specs.Str.{IsUtf8, IsCharBoundary}
 use Rattle.std.proofs.lemmas.Bool.Decides.{nat_tests}
@@ -151,5 +151,6 @@ end_well text at within = record {
 
 pub well_read : StatementsAreWellRead
 unfolding IsRead
-well_read site text at raw u boundary (inl (next, is)) = subst (IsWellRead text at) (sym is) (end_well text at boundary.0)
+well_read site text at raw u boundary (inl (next, is)) =
+    subst (IsWellRead text at) (sym is) (end_well text at boundary.0)
 well_read site text at raw u boundary (inr stands) = stands_well site text at raw u boundary stands

@@ -1,5 +1,5 @@
 -- What holds of every statement that was read from a text.
-use Rattle.std.specs.Prelude.{◌≡◌, ◌≢◌, ◌≤◌, ◌-◌, ◌+◌, ℕ, true, false, List, length, take, drop, All, Option, Some, IfSome, pos, ◌≤ℤ◌}
+use Rattle.std.specs.Prelude.{◌≡◌, ◌≢◌, ◌≤◌, ◌-◌, ◌+◌, ℕ, true, false, List, length, take, drop, All, Option, IfSome, pos, ◌≤ℤ◌}
 use Rattle.std.specs.Str.{IsCharBoundary}
 use Rattle.alg_terms.specs.Limits.{MAX_LITERAL, MAX_DEPTH}
 use Rattle.alg_terms.specs.Kinds.{IsDomain}

@@ -91,10 +91,7 @@ fn the_first_statement_or_fault(rt: HostRuntime) {
             "goal x = y by nsatz using f(g(H)), K power 2 limit 5.",
             Found::Read(0, 53),
         ),
-        (
-            "goal x = y by nsatz limit 5 power 2.",
-            Found::Fault(4, 28),
-        ),
+        ("goal x = y by nsatz limit 5 power 2.", Found::Fault(4, 28)),
         ("goal x = y by nsatz using power 2.", Found::Fault(4, 26)),
         ("goal x = y by nsatz using H K.", Found::Fault(4, 28)),
         ("goal x = y by nsatz using f(H.", Found::Fault(4, 29)),

@@ -1,5 +1,5 @@
 -- The law that the canonical text of a file reads back as the file.
-use Rattle.std.specs.Prelude.{◌≡◌, ◌≤◌, ◌+◌, ◌-◌, ◌==◌, ℕ, if◌then◌else◌, max, List, [], ◌∷◌, All, Option, None, Ok, map}
+use Rattle.std.specs.Prelude.{◌≤◌, ◌+◌, ◌-◌, ◌==◌, ℕ, if◌then◌else◌, max, List, [], ◌∷◌, All, Option, None, Ok, map}
 use Rattle.alg_lines.specs.declared.answer.Answer.{Answer}
 use Rattle.alg_printer.specs.Text.{text_of, statement_text}
 use Rattle.alg_terms.specs.declared.file.File.{File}

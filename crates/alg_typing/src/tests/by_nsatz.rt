@@ -62,7 +62,11 @@ const STATEMENTS: [(&'static str, &'static str, Found); 44] = [
     (DOMAIN, "goal x = 0 by nsatz limit 0.", File(3)),
     (DOMAIN, "goal x = 0 by nsatz limit 1000000.", File(3)),
     (DOMAIN, "goal x = 0 by nsatz limit 1000001.", Fault(16, 47)),
-    (DOMAIN, "goal x = 0 by nsatz power 16 limit 1000001.", Fault(16, 56)),
+    (
+        DOMAIN,
+        "goal x = 0 by nsatz power 16 limit 1000001.",
+        Fault(16, 56),
+    ),
     // hypotheses: a name that is new, sides of one sort, no quotients
     (FIELD, "hyp h : x = 0. hyp k : x <> 1.", File(4)),
     (FIELD, "hyp h : x = 1/x.", Fault(13, 33)),
@@ -99,14 +103,28 @@ const STATEMENTS: [(&'static str, &'static str, Found); 44] = [
     (UNEQUAL, "goal x = 0 by nsatz using f(h).", Fault(9, 116)),
     // the earlier byte first
     (RING, "goal x = 0 by nsatz power 17.", Fault(14, 33)),
-    (DOMAIN, "goal x = 0 by nsatz power 17 limit 1000001.", Fault(16, 47)),
+    (
+        DOMAIN,
+        "goal x = 0 by nsatz power 17 limit 1000001.",
+        Fault(16, 47),
+    ),
     (FIELD, "goal x/x = 1 by nsatz power 17.", Fault(13, 26)),
-    (UNEQUAL, "goal y = 0 by nsatz using f(g(h)).", Fault(15, 116)),
-    (EQUAL, "goal x = 0 by nsatz using f(h) power 0.", Fault(9, 115)),
+    (
+        UNEQUAL,
+        "goal y = 0 by nsatz using f(g(h)).",
+        Fault(15, 116),
+    ),
+    (
+        EQUAL,
+        "goal x = 0 by nsatz using f(h) power 0.",
+        Fault(9, 115),
+    ),
 ];
 
 #[test]
-fn a_statement_on_hypotheses_is_read_or_has_a_first_fault(rt: HostRuntime) -> Result<(), AllocError> {
+fn a_statement_on_hypotheses_is_read_or_has_a_first_fault(
+    rt: HostRuntime,
+) -> Result<(), AllocError> {
     for (declared, statement, want) in &STATEMENTS {
         let found = read_behind(rt.alloc(), *declared, *statement)?;
         assert!(rt; found == *want, "{statement}: {found:?} is to be {want:?}");

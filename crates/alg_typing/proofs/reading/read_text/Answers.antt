@@ -21,4 +21,3 @@ returns-clause-ok c = (
       c.in_ok-read_declared.ensures.ok,
   c.into_file.ensures.valid,
 )
-

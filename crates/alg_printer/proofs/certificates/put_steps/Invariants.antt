@@ -1,6 +1,6 @@
 use Rattle.std.proofs.Common.{◌≡◌, ◌++◌, [], drop, flat_map, unwrap_or}
 use Rattle.alg_printer.specs.Answers.{step_text}
-use Rattle.alg_printer.proofs.answers.put_steps.Given as goal
+use Rattle.alg_printer.proofs.certificates.put_steps.Given as goal
 
 -- what is there, with what is left, makes what is wanted
 abbrev pub invariant-loop-step : goal.invariant-loop-step

@@ -2,7 +2,7 @@ use Rattle.std.proofs.Common.{◌≡◌, ◌++◌, drop, codes}
 use Rattle.std.specs.Fmt.{signed_decimal}
 use Rattle.alg_printer.specs.Answers.{constants_text}
 use Rattle.alg_printer.specs.Names.{listed}
-use Rattle.alg_printer.proofs.answers.put_constants.Given as goal
+use Rattle.alg_printer.proofs.certificates.put_constants.Given as goal
 
 -- what is there, with what is left, makes what is wanted
 abbrev pub invariant-loop-constant : goal.invariant-loop-constant
