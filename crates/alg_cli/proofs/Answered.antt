@@ -6,6 +6,7 @@ use Rattle.alg_lines.specs.declared.answer.Answer.TheVariants.{Proved, Certified
 use Rattle.alg_terms.specs.declared.file.File.{File}
 use Rattle.alg_terms.specs.Valid.{IsValid}
 use Rattle.alg_prover.specs.Answers.{AreAnswers}
+use Rattle.alg_prover.specs.InFree.{NoDiffersInFree}
 use Rattle.alg_prover.specs.Laws as prover
 use Rattle.alg_universe.specs.declared.universe.Universe.{Ghosts}
 use Rattle.alg_typing.specs.Reading.{IsReadingOf}
@@ -30,11 +31,16 @@ proved_right u proved certified file answers valid h = record {
 }
 
 -- and where they are no, the sides differ
-pub noes_differ : prover.NoDiffers → (file : File) (answers : List Answer) → AreAnswers file answers →
-    NoesDiffer file answers
-noes_differ law file answers h = λ i at left right there by_ring.
-    let (low, answer) = pair_at file file.goals answers i (No at left right) h there in
-    law file i at left right by_ring answer
+pub noes_differ : prover.NoDiffers → NoDiffersInFree → (file : File) (answers : List Answer) → IsValid file →
+    AreAnswers file answers → NoesDiffer file answers
+noes_differ law in_free file answers valid h = record {
+  polynomials = λ i at left right there by_ring.
+      let (low, answer) = pair_at file file.goals answers i (No at left right) h there in
+      law file i at left right by_ring answer;
+  values = λ none i at left right there by_ring.
+      let (low, answer) = pair_at file file.goals answers i (No at left right) h there in
+      in_free file i at left right valid none low by_ring answer;
+}
 
 -- what holds of a success holds in weaker form
 pub ok_weaker : {A E : Type 0} (P Q : A → Type 0) (r : Result A E) → ((x : A) → P x → Q x) → IfOk r P → IfOk r Q
@@ -43,11 +49,11 @@ ok_weaker P Q (Err e) f h = tt
 
 -- the file's text with its answers is the reply to the bytes that read as the file
 pub answered_reply : {E : Type 0} (u : Ghosts E) → prover.ProvedIsRight u → prover.CertifiedIsRight u →
-    prover.NoDiffers → NoneExists →
+    prover.NoDiffers → NoDiffersInFree → NoneExists →
     (bytes : List ℕ) (file : File) (text : List ℕ) (status : Status) → length bytes ≤ most_bytes command.Prove →
     IsReadingOf bytes (Ok file) → IsValid file → IsFileReply file text status →
     IsReplyTo u command.Prove bytes text status
-answered_reply u proved certified differ none bytes file text status low reads valid reply =
+answered_reply u proved certified differ in_free none bytes file text status low reads valid reply =
     inr (
       low,
       inr (record {
@@ -55,7 +61,7 @@ answered_reply u proved certified differ none bytes file text status low reads v
         reads = reads;
         reply = reply;
         right = proved_right u proved certified file reply.answers valid reply.are_answers;
-        differ = noes_differ differ file reply.answers reply.are_answers;
+        differ = noes_differ differ in_free file reply.answers valid reply.are_answers;
         none = nones_have_none none file reply.answers valid reply.are_answers;
       }),
     )

@@ -2,6 +2,8 @@
 
 mod by_field;
 mod by_nsatz;
+mod failing_ends;
+mod loads;
 mod nsatz_limits;
 mod rows;
 mod whole_files;
@@ -15,7 +17,16 @@ use rows::{ANSWERED, ROWS};
 use std::alloc::Global;
 use std::test::Fail;
 
-/// The only word that the program knows.
+/// Words, each a text.
+fn words_of(alloc: Global, texts: &[&str]) -> Result<Vec<String>, Fail> {
+    let mut words = Vec::new(alloc);
+    for text in texts {
+        words.push(String::from_str(alloc, text)?)?;
+    }
+    Ok(words)
+}
+
+/// The word that asks for answers.
 fn prove(alloc: Global) -> Result<Vec<String>, Fail> {
     Ok(vec![in alloc; String::from_str(alloc, "prove")?]?)
 }
@@ -174,32 +185,6 @@ fn quotients_may_be_190_deep(rt: HostRuntime) -> Result<(), Fail> {
 }
 
 #[test]
-fn a_failed_write_leaves_a_front_of_the_text(rt: HostRuntime) -> Result<(), Fail> {
-    let words = prove(rt.alloc())?;
-    let input = joined(rt.alloc(), ANSWERED[1].file, "")?;
-    let mut source = MemSource::new(input, 1000, Vec::new(rt.alloc()));
-    let fails = vec![in rt.alloc(); 2u64]?;
-    let mut sink = MemSink::new(rt.alloc(), 1000, 16, fails)?;
-    let status = run::<Rats, _, _>(rt.alloc(), words.as_slice(), &mut source, &mut sink);
-    assert_eq!(rt; status, Status::WriteFault);
-    assert_eq!(rt; sink.bytes(), b"ring R.\nvar x y ".as_slice());
-    Ok(())
-}
-
-#[test]
-fn after_a_failed_read_nothing_is_written(rt: HostRuntime) -> Result<(), Fail> {
-    let words = prove(rt.alloc())?;
-    let input = joined(rt.alloc(), ANSWERED[1].file, "")?;
-    let fails = vec![in rt.alloc(); 3u64]?;
-    let mut source = MemSource::new(input, 16, fails);
-    let mut sink = MemSink::new(rt.alloc(), 1000, 1000, Vec::new(rt.alloc()))?;
-    let status = run::<Rats, _, _>(rt.alloc(), words.as_slice(), &mut source, &mut sink);
-    assert_eq!(rt; status, Status::ReadFault);
-    assert_eq!(rt; sink.bytes(), b"".as_slice());
-    Ok(())
-}
-
-#[test]
 fn an_input_has_at_most_a_mebibyte(rt: HostRuntime) -> Result<(), Fail> {
     for (count, wanted, ending) in [
         (1_048_576, "", Status::Done),
@@ -216,10 +201,7 @@ fn an_input_has_at_most_a_mebibyte(rt: HostRuntime) -> Result<(), Fail> {
 #[test]
 fn for_other_words_the_usage_is_written_and_nothing_read(rt: HostRuntime) -> Result<(), Fail> {
     for row in [[].as_slice(), &["Prove"], &["prove", "prove"]] {
-        let mut words = Vec::new(rt.alloc());
-        for word in row {
-            words.push(String::from_str(rt.alloc(), word)?)?;
-        }
+        let words = words_of(rt.alloc(), row)?;
         let fails = vec![in rt.alloc(); 1u64]?;
         let mut source = MemSource::new(Vec::new(rt.alloc()), 1, fails);
         let mut sink = MemSink::new(rt.alloc(), 1000, 1000, Vec::new(rt.alloc()))?;
