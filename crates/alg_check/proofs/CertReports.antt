@@ -30,7 +30,8 @@ module _ (file : File) (e : Equation) (uses : List Use) (p : Prepared) (is : IsP
         Judged p.hyps.items p.goal cert (numbers ≡ constants cert char0) r →
         IsCertReport file e uses power numbers cert r
     cert_tried within char0 declared r judged =
-        let own = subst (λ (b : Bool). Judged p.hyps.items p.goal cert (numbers ≡ constants cert b) r) declared judged in
+        let own = subst (λ (b : Bool). Judged p.hyps.items p.goal cert (numbers ≡ constants cert b) r) declared
+        judged in
         let right = HasConstants file e uses power numbers cert in
         IsCertReport.tried within is.fine
         (subst (λ (g : Polynomial). Judged (prepared_hyps file e uses) g cert right r) is.goal

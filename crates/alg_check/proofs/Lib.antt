@@ -20,3 +20,4 @@ pub mod NumberTests
 pub mod Fields
 pub mod Few
 pub mod Right
+pub mod FractionSteps

@@ -77,7 +77,8 @@ module _ (file : File) (goal : Goal) (uses : List Use) (power : ℕ) (numbers : 
   proof_of (IsCertReport.stopped stop h p e) = absurd (no_stop stop e)
   proof_of (IsCertReport.tried h p (a, tried, judged)) =
       let is = is_good (HasConstants file goal.equation uses power numbers cert) a judged in (
-        subst (Accepting (prepared_hyps file goal.equation uses) (prepared_goal file goal.equation uses) cert) is.0 tried,
+        subst (Accepting (prepared_hyps file goal.equation uses) (prepared_goal file goal.equation uses) cert) is.0
+            tried,
         is.1,
       )
 

@@ -165,8 +165,11 @@ both_sizes ps qs a b s first second times =
 pub one_size : (p : Polynomial) (s : Size) → IsSize (norm p) (poly_degree p) s → (norm p ≡ 0 → is_nothing p ≡ true) →
     IsSizeOf (p ∷ []) s
 one_size p s size sound = (
-  (size.0 ∙ ap (λ n. min n norm_end) (one (norm p)), size.1 ∙ ap (λ n. min n degree_end) (last (poly_degree p)
-      ∙ sym (sum_by-cons poly_degree p []))),
+  (
+    size.0 ∙ ap (λ n. min n norm_end) (one (norm p)),
+    size.1 ∙ ap (λ n. min n degree_end) (last (poly_degree p)
+        ∙ sym (sum_by-cons poly_degree p [])),
+  ),
   first_sound p [] sound (λ none. absurd (cc)),
 )
   where
@@ -197,7 +200,8 @@ module _ (p : Polynomial) (qs : List Polynomial) (s : Size) (size : IsSizeOf (p 
       × (poly_degree p + sum_by poly_degree qs ≤ MAX_DEGREE)
   fine_bounds some fine =
       let n = norm_product qs in
-      let whole : norm p * n ≢ 0 = λ none. some (size.0.0 ∙ ap (λ k. min k norm_end) none ∙ min_low 0 norm_end (omega arith)) in
+      let whole : norm p * n ≢ 0 = λ none. some (size.0.0 ∙ ap (λ k. min k norm_end) none ∙ min_low 0 norm_end (omega
+      arith)) in
       let kept = sized_says (norm p * n) (sum_by poly_degree (p ∷ qs)) whole (product_sized (p ∷ qs) size.1 ∙ fine) in (
         second (norm p) n whole,
         kept.0,

@@ -25,7 +25,8 @@ OneAcceptance =
 -- each goal of a valid file that a certificate proves is right, wherever none of the certificate's constants is zero
 abbrev pub CertifiedIsRight : {E : Type 0} → Ghosts E → Type 0
 CertifiedIsRight u =
-    (file : File) (i : ℕ) → IsValid file → i < length file.goals → (cert : Cert) → IsCertified file (goal_at file i) cert →
+    (file : File) (i : ℕ) → IsValid file → i < length file.goals → (cert : Cert) →
+    IsCertified file (goal_at file i) cert →
     IsRight u file i [] (constants cert (sort_at file (goal_at file i).equation.sort).char0)
 
 -- a goal with an answer, or with none, has one report

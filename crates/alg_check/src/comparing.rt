@@ -73,9 +73,10 @@ pub(crate) fn same_answer(own: &Answer, given: &Answer) -> bool
                 right: second,
             },
         ) => at.same(other) && *left == *first && *right == *second,
-        (Answer::ZeroDenominator { denominator: one }, Answer::ZeroDenominator { denominator: other }) => {
-            same(one, other)
-        }
+        (
+            Answer::ZeroDenominator { denominator: one },
+            Answer::ZeroDenominator { denominator: other },
+        ) => { same(one, other) }
         (Answer::NoneUpTo { power: one }, Answer::NoneUpTo { power: other }) => *one == *other,
         (Answer::GaveUp { limit: one }, Answer::GaveUp { limit: other }) => *one == *other,
         (Answer::Atoms, Answer::Atoms)

@@ -44,11 +44,7 @@ fn take_away(list: &mut Vec<Poly>, p: &Poly)
 }
 
 /// What `own` lacks of `other`: each factor as often as it is there more often.
-pub(crate) fn lacking(
-    alloc: Global,
-    own: &[Poly],
-    other: &[Poly],
-) -> Result<Vec<Poly>, NoMemory>
+pub(crate) fn lacking(alloc: Global, own: &[Poly], other: &[Poly]) -> Result<Vec<Poly>, NoMemory>
     ensures { IfOk result (λ v. (q : Polynomial) →
         times_in q v.items ≡ times_in q other.now - times_in q own.now) }
 {

@@ -108,9 +108,10 @@ pub(crate) fn numerators(
     left: Fraction,
     right: Fraction,
 ) -> Result<(Poly, Poly), Overrun>
-    ensures { Gives (λ n. n)
-        (cleared nat_cmp (fraction_of left) (fraction_of right),
-        cleared nat_cmp (fraction_of right) (fraction_of left))
+    ensures { Gives (λ n. n) (
+      cleared nat_cmp (fraction_of left) (fraction_of right),
+      cleared nat_cmp (fraction_of right) (fraction_of left),
+    )
         (cleared_outcome nat_cmp (fraction_of left) (fraction_of right)) result }
 {
     let own = lacking(alloc, &left.below, &right.below)?;

@@ -21,9 +21,11 @@ mod numbers;
 mod preparing;
 mod product;
 mod ring;
-mod worse;
+#[cfg(test)]
+mod small_file;
 #[cfg(test)]
 mod tests;
+mod worse;
 
 pub use alg_lines::{Answer, Cert, GoalCheck, GoalStep, Line, NoMemory};
 pub use alg_poly::{Overrun, Poly};

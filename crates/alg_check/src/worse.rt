@@ -21,10 +21,7 @@ fn worse(end: Overrun, other: Overrun) -> Overrun
 }
 
 /// A polynomial that was made or refused, where something else at the node is refused or not.
-pub(crate) fn kept(
-    made: Result<Poly, Overrun>,
-    fits: Result<(), Overrun>,
-) -> Result<Poly, Overrun>
+pub(crate) fn kept(made: Result<Poly, Overrun>, fits: Result<(), Overrun>) -> Result<Poly, Overrun>
     ensures { (p : Polynomial) (o u : Outcome) → Gives (λ q. q) p o made → Fits u fits →
         Gives (λ q. q) p (worse o u) result }
 {

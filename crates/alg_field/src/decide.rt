@@ -95,8 +95,13 @@ fn make_sides(
     ensures { MakesSides file.now equation.now result }
 {
     let mut conditions = Vec::new(alloc);
-    let (left, right): (Fraction, Fraction) =
-        reify_sides(alloc, file, equation, table, &mut conditions)?;
+    let (left, right): (Fraction, Fraction) = reify_sides(
+        alloc,
+        file,
+        equation,
+        table,
+        &mut conditions,
+    )?;
     let (left, right) = numerators(alloc, left, right)?;
     Ok(Sides {
         left,

@@ -12,6 +12,7 @@ mod common;
 mod constants;
 mod decide;
 mod factors;
+mod form;
 mod fraction;
 pub mod laws;
 mod lists;

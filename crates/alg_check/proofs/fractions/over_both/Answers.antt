@@ -13,7 +13,8 @@ returns-in_ok-append-in-Ok c p o given =
     let more = c.args.more.now in
     let all = c.deref.result.now ++ more in
     let fit = fits_product all c.size_of_both.result c.size_of_both.ensures c.fits.result c.fits.ensures in
-    let rule = ap (λ l. product_outcome (l ++ more)) c.deref.ensures.value ∙ sym (below_is (c.args.own.items ++ more)) in
+    let rule = ap (λ l. product_outcome (l ++ more)) c.deref.ensures.value ∙ sym (below_is (c.args.own.items ++
+    more)) in
     let made = c.in-Ok.ensures p o _ given (subst (λ (u : Outcome). Fits u c.fits.result) rule fit) in
     ((λ i. record { top = made.0 i; below = as_map (c.in_ok-append-in-Ok.ensures i) }), made.1)
 
@@ -23,5 +24,6 @@ returns-in-Err c p o given =
     let more = c.args.more.now in
     let all = c.deref.result.now ++ more in
     let fit = fits_product all c.size_of_both.result c.size_of_both.ensures c.fits.result c.fits.ensures in
-    let rule = ap (λ l. product_outcome (l ++ more)) c.deref.ensures.value ∙ sym (below_is (c.args.own.items ++ more)) in
+    let rule = ap (λ l. product_outcome (l ++ more)) c.deref.ensures.value ∙ sym (below_is (c.args.own.items ++
+    more)) in
     c.in-Err.ensures p o _ given (subst (λ (u : Outcome). Fits u c.fits.result) rule fit)

@@ -10,4 +10,5 @@ returns-in-Ok c =
     let are = c.in-Ok.ensures in
     let made = c.sub.ensures in
     gives_after (λ (q : Polynomial). q) _ _ _ _ _ c.sub.result are.1
-    (λ i. difference_of (are.0 i).0 (are.0 i).1) (λ i. sum_outcome (are.0 i).0 (are.0 i).1) made.difference made.fine made.refused
+    (λ i. difference_of (are.0 i).0 (are.0 i).1) (λ i. sum_outcome (are.0 i).0 (are.0 i).1) made.difference made.fine
+    made.refused

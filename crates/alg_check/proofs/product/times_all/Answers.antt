@@ -11,7 +11,8 @@ times-requires-clause-norms c =
     omega (
       arith,
       small,
-      norms_over c.args.rest.now c.loop-factor.factor-index x x (omega arith) c.factor-item.is (norm c.loop-factor.product)
+      norms_over c.args.rest.now c.loop-factor.factor-index x x (omega arith) c.factor-item.is (norm
+          c.loop-factor.product)
           _ refl inv.some,
     )
 

@@ -50,7 +50,8 @@ make-requires g t c =
 pub returns-in_err-part-in-Neg : goal.returns-in_err-part-in-Neg
 returns-in_err-part-in-Neg g t c =
     let path = c.args.path.now.items in
-    handed_on g.F.FractionForm.fraction c.args.char0 c.args.table.now path c.args.term.now _ _ _ _ _ c.from_residual-in_err-part-in-Neg.ensures.1
+    handed_on g.F.FractionForm.fraction c.args.char0 c.args.table.now path c.args.term.now _ _ _ _ _
+    c.from_residual-in_err-part-in-Neg.ensures.1
     (part_failed g.F.FractionForm.fraction c.args.char0 c.args.table.now path c.args.term.now path _ _ _
     (part c.args.table.now path Unary.Opposite c.in-Neg.is c.get.ensures) c.requires _ c.in_err-part-in-Neg.ensures)
 
@@ -77,7 +78,8 @@ make-requires-in-Pow g t c =
 pub returns-in_err-part-in-Pow : goal.returns-in_err-part-in-Pow
 returns-in_err-part-in-Pow g t c =
     let path = c.args.path.now.items in
-    handed_on g.F.FractionForm.fraction c.args.char0 c.args.table.now path c.args.term.now _ _ _ _ _ c.from_residual-in_err-part-in-Pow.ensures.1
+    handed_on g.F.FractionForm.fraction c.args.char0 c.args.table.now path c.args.term.now _ _ _ _ _
+    c.from_residual-in_err-part-in-Pow.ensures.1
     (part_failed g.F.FractionForm.fraction c.args.char0 c.args.table.now path c.args.term.now path _ _ _
     (part c.args.table.now path (Unary.Power _) c.in-Pow.is c.get-in-Pow.ensures) c.requires _
     c.in_err-part-in-Pow.ensures)
@@ -108,7 +110,8 @@ make-requires-in-Hom g t c =
 pub returns-in_err-image-in-Hom : goal.returns-in_err-image-in-Hom
 returns-in_err-image-in-Hom g t c =
     let path = c.args.path.now.items in
-    handed_on g.F.FractionForm.fraction c.args.char0 c.args.table.now path c.args.term.now _ _ _ _ _ c.from_residual-in_err-image-in-Hom.ensures.1
+    handed_on g.F.FractionForm.fraction c.args.char0 c.args.table.now path c.args.term.now _ _ _ _ _
+    c.from_residual-in_err-image-in-Hom.ensures.1
     (part_failed g.F.FractionForm.fraction c.args.char0 c.args.table.now path c.args.term.now _ _ _ _
     (part c.args.table.now path (Unary.Image _) c.in-Hom.is c.get-in-Hom.ensures) c.requires _
     c.in_err-image-in-Hom.ensures)
@@ -117,7 +120,8 @@ pub returns-in_ok-image-in-Hom : goal.returns-in_ok-image-in-Hom
 returns-in_ok-image-in-Hom g t c =
     let path = c.args.path.now.items in
     let image = c.in_ok-image-in-Hom in
-    let Q : List ℕ → Type 0 = λ x. IsMade g.F.FractionForm.fraction c.args.char0 c.args.table.now x c.make-in-Hom.new.path.items
+    let Q : List ℕ → Type 0 = λ x. IsMade g.F.FractionForm.fraction c.args.char0 c.args.table.now x
+    c.make-in-Hom.new.path.items
     c.args.conditions.now.items c.make-in-Hom.new.conditions.items c.get-in-Hom.result.now image.image in
     let made = subst Q c.in_ok-push-in-Hom.ensures.items image.ensures in
     let pushed : c.make-in-Hom.new.path.items ≡ path ++ c.in-Hom.morphism ∷ [] =
@@ -136,14 +140,17 @@ make-requires-in-Add g t c = λ κs h. (
   search (rules, the_lemmas),
   (
     h,
-    left_over g.F.FractionForm.fraction c.args.char0 c.args.table.now _ _ _ _ _ _ c.in-Add.is c.get-in-Add.ensures refl c.requires,
+    left_over g.F.FractionForm.fraction c.args.char0 c.args.table.now _ _ _ _ _ _ c.in-Add.is c.get-in-Add.ensures
+        refl c.requires,
   ),
 )
 
 pub returns-in_err-left-in-Add : goal.returns-in_err-left-in-Add
 returns-in_err-left-in-Add g t c =
-    handed_on g.F.FractionForm.fraction c.args.char0 c.args.table.now _ _ _ _ _ _ _ c.from_residual-in_err-left-in-Add.ensures.1
-    (left_failed g.F.FractionForm.fraction c.args.char0 c.args.table.now _ _ _ _ _ _ c.in-Add.is c.get-in-Add.ensures refl c.requires _
+    handed_on g.F.FractionForm.fraction c.args.char0 c.args.table.now _ _ _ _ _ _ _
+    c.from_residual-in_err-left-in-Add.ensures.1
+    (left_failed g.F.FractionForm.fraction c.args.char0 c.args.table.now _ _ _ _ _ _ c.in-Add.is c.get-in-Add.ensures
+    refl c.requires _
     c.in_err-left-in-Add.ensures)
 
 pub make-requires-in-Add-2 : goal.make-requires-in-Add-2
@@ -151,19 +158,23 @@ make-requires-in-Add-2 g t c = λ κs h. (
   search (rules, the_lemmas),
   (
     h,
-    right_over g.F.FractionForm.fraction c.args.char0 c.args.table.now _ _ _ _ _ _ c.in-Add.is c.get-in-Add.ensures c.get-in-Add-2.ensures
+    right_over g.F.FractionForm.fraction c.args.char0 c.args.table.now _ _ _ _ _ _ c.in-Add.is c.get-in-Add.ensures
+        c.get-in-Add-2.ensures
         c.requires _ c.in_ok-left-in-Add.ensures.back,
   ),
 )
 
 pub returns-in_err-right-in-Add : goal.returns-in_err-right-in-Add
 returns-in_err-right-in-Add g t c =
-    handed_on g.F.FractionForm.fraction c.args.char0 c.args.table.now _ _ _ _ _ _ _ c.from_residual-in_err-right-in-Add.ensures.1
-    (right_failed g.F.FractionForm.fraction c.args.char0 c.args.table.now _ _ _ _ _ _ c.in-Add.is c.get-in-Add.ensures c.get-in-Add-2.ensures
+    handed_on g.F.FractionForm.fraction c.args.char0 c.args.table.now _ _ _ _ _ _ _
+    c.from_residual-in_err-right-in-Add.ensures.1
+    (right_failed g.F.FractionForm.fraction c.args.char0 c.args.table.now _ _ _ _ _ _ c.in-Add.is
+    c.get-in-Add.ensures c.get-in-Add-2.ensures
     c.requires c.in_ok-left-in-Add.ensures.fine _ c.in_err-right-in-Add.ensures)
 
 pub returns-in_ok-right-in-Add : goal.returns-in_ok-right-in-Add
 returns-in_ok-right-in-Add g t c =
-    both_made g.F.FractionForm.fraction c.args.char0 c.args.table.now _ _ _ _ _ _ c.in-Add.is c.get-in-Add.ensures c.get-in-Add-2.ensures
+    both_made g.F.FractionForm.fraction c.args.char0 c.args.table.now _ _ _ _ _ _ c.in-Add.is c.get-in-Add.ensures
+    c.get-in-Add-2.ensures
     c.requires _ _ _ _ _ _ _ _ c.combined.result c.in_ok-left-in-Add.ensures c.in_ok-right-in-Add.ensures
     c.combined.ensures

@@ -7,7 +7,8 @@ use Rattle.alg_reify.proofs.fractions.combined.Goals as goal
 pub returns-in-Add : goal.returns-in-Add
 returns-in-Add g c =
     let seen = c.args.conditions.now.items in
-    let P : Operation → Type 0 = λ op. Combines g.F.FractionForm.fraction c.args.char0 op (g.F.FractionForm.fraction c.args.left)
+    let P : Operation → Type 0 = λ op. Combines g.F.FractionForm.fraction c.args.char0 op (g.F.FractionForm.fraction
+    c.args.left)
     (g.F.FractionForm.fraction c.args.right)
     seen seen c.ended.result in
     subst P (sym (ap operation c.in-Add.is ∙ operation_binary Binary.Sum _ _))
@@ -16,7 +17,8 @@ returns-in-Add g c =
 pub returns-in-Sub : goal.returns-in-Sub
 returns-in-Sub g c =
     let seen = c.args.conditions.now.items in
-    let P : Operation → Type 0 = λ op. Combines g.F.FractionForm.fraction c.args.char0 op (g.F.FractionForm.fraction c.args.left)
+    let P : Operation → Type 0 = λ op. Combines g.F.FractionForm.fraction c.args.char0 op (g.F.FractionForm.fraction
+    c.args.left)
     (g.F.FractionForm.fraction c.args.right)
     seen seen c.ended-in-Sub.result in
     subst P (sym (ap operation c.in-Sub.is ∙ operation_binary Binary.Difference _ _))
@@ -25,7 +27,8 @@ returns-in-Sub g c =
 pub returns-in-Mul : goal.returns-in-Mul
 returns-in-Mul g c =
     let seen = c.args.conditions.now.items in
-    let P : Operation → Type 0 = λ op. Combines g.F.FractionForm.fraction c.args.char0 op (g.F.FractionForm.fraction c.args.left)
+    let P : Operation → Type 0 = λ op. Combines g.F.FractionForm.fraction c.args.char0 op (g.F.FractionForm.fraction
+    c.args.left)
     (g.F.FractionForm.fraction c.args.right)
     seen seen c.ended-in-Mul.result in
     subst P (sym (ap operation c.in-Mul.is ∙ operation_binary Binary.Product _ _))
@@ -33,7 +36,8 @@ returns-in-Mul g c =
 
 pub returns-in-Div : goal.returns-in-Div
 returns-in-Div g c =
-    let P : Operation → Type 0 = λ op. Combines g.F.FractionForm.fraction c.args.char0 op (g.F.FractionForm.fraction c.args.left)
+    let P : Operation → Type 0 = λ op. Combines g.F.FractionForm.fraction c.args.char0 op (g.F.FractionForm.fraction
+    c.args.left)
     (g.F.FractionForm.fraction c.args.right)
     c.args.conditions.now.items c.divided.new.conditions.items c.divided.result in
     subst P (ap Operation.Quotient c.get.ensures ∙ sym (ap operation c.in-Div.is

@@ -14,7 +14,8 @@ returns g c =
     let a = g.F.FractionForm.fraction c.args.left in
     let b = g.F.FractionForm.fraction c.args.right in
     let t = c.args.denominator.now in
-    let P : Bool → Type 0 = λ zero. GivesFraction g.F.FractionForm.fraction (frac_quotient nat_cmp (is_unit nat_cmp b.top) a b)
+    let P : Bool → Type 0 = λ zero. GivesFraction g.F.FractionForm.fraction (frac_quotient nat_cmp (is_unit nat_cmp
+    b.top) a b)
     (cond zero (FractionOutcome.ZeroDenominator t) (of_polynomials (quotient_of_fractions nat_cmp a b)))
     c.ended.result in (
       in_any_case c.ended.result c.in_ok-add_condition.ensures,
