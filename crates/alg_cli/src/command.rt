@@ -77,9 +77,7 @@ fn is_number(word: &[u8]) -> bool
 {
     match word {
         [] => false,
-        [first, rest @ ..] => {
-            are_digits(word) && (*first != b'0' || rest.is_empty())
-        }
+        [first, rest @ ..] => are_digits(word) && (*first != b'0' || rest.is_empty()),
     }
 }
 

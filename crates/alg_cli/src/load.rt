@@ -49,9 +49,7 @@ fn proofs_in(answers: &[Answer]) -> usize
 {
     let mut count = 0;
     for answer in answers {
-        if is_proof(answer) {
-            count += 1;
-        }
+        count += usize::from(is_proof(answer));
     }
     count
 }

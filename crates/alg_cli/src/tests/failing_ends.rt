@@ -75,7 +75,11 @@ fn each_read_and_each_write_may_fail(rt: HostRuntime) -> Result<(), Fail> {
     rows.push((0, 0, 75, 75, Status::Done))?;
     for (read, write, room, written, ending) in rows {
         let (output, status) = run_by_bytes(rt.alloc(), read, write, room)?;
-        assert_eq!(rt; output.as_slice(), &text[..written], "{read}, {write}, {room}");
+        assert_eq!(rt;
+            output.as_slice(),
+            &text[..written],
+            "{read}, {write}, {room}"
+        );
         assert_eq!(rt; status, ending, "{read}, {write}, {room}");
     }
     Ok(())
