@@ -1,9 +1,10 @@
 -- The words that are numbers, and how many goals they ask for.
-use Rattle.std.proofs.Common.{◌≡◌, ◌≤◌, ◌<◌, ◌^◌, ℕ, Bool, true, false, not, List, [], ◌∷◌, length, Option, Some, None, refl, sym, ap, ◌∙◌, subst, arith}
+use Rattle.std.proofs.Common.{◌≡◌, ◌≢◌, ◌≤◌, ◌<◌, ◌^◌, ℕ, Bool, true, false, not, List, [], ◌∷◌, length, Option, Some, None, refl, sym, ap, ◌∙◌, subst, arith}
 use Rattle.std.specs.Prelude.{◌&&◌, ◌||◌, ◌==◌, nat_le, slice_index_or, if◌then◌else◌}
 use Rattle.std.specs.Result.{OkIff}
 use Rattle.std.specs.Str.{all_ascii_digits}
 use Rattle.std.proofs.lemmas.Bool.{le-leb, lt-leb}
+use Rattle.std.proofs.lemmas.Bool.Decides.{nat_tests}
 use Rattle.std.proofs.lemmas.Str.Parse.{IsNumeralModel, numerals_by_weight, tells_all_ascii_digits}
 use Rattle.alg_load.specs.Limits.{MAX_LOAD}
 use Rattle.alg_terms.specs.Ascii.{DIGIT_0}
@@ -12,11 +13,13 @@ use Rattle.alg_cli.specs.Commands.{is_number, goals_of}
 
 -- digits of which the first is not 0 are a number
 pub first_is_not_zero : (word : List ℕ) → 1 ≤ length word → all_ascii_digits word ≡ true →
-    not (slice_index_or word 0 0 == 48) ≡ true → not (slice_index_or word 0 0 == 48) ≡ is_number word
+    slice_index_or word 0 0 ≢ DIGIT_0 → not (slice_index_or word 0 0 == DIGIT_0) ≡ is_number word
 first_is_not_zero [] some all first = absurd (omega arith)
 first_is_not_zero (digit ∷ digits) some all first =
-    first ∙ sym (ap (λ b. b && (not (digit == DIGIT_0) || length digits == 0)) all
-    ∙ ap (λ b. b || length digits == 0) first)
+    let other : (digit == DIGIT_0) ≡ false = grind (arith, nat_tests) in
+    ap not other
+    ∙ sym (ap (λ b. b && (not (digit == DIGIT_0) || length digits == 0)) all
+    ∙ ap (λ b. not b || length digits == 0) other)
 
 -- where not all are digits, the word is none
 pub not_all_digits : (word : List ℕ) → 1 ≤ length word → all_ascii_digits word ≡ false → false ≡ is_number word

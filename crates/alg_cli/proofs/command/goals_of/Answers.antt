@@ -1,4 +1,5 @@
-use Rattle.std.proofs.Common.{rules, ◌≡◌, ◌<◌, true, Ok, Err, subst, sym, arith}
+use Rattle.std.proofs.Common.{rules, ◌≡◌, ◌<◌, ℕ, true, Result, Ok, Err, subst, sym, arith}
+use Rattle.std.specs.declared.num.ParseIntError.{ParseIntError}
 use Rattle.std.proofs.lemmas.Str.Parse.{parse_digits}
 use Rattle.alg_load.specs.Limits.{MAX_LOAD}
 use Rattle.alg_tokens.specs.Pieces.{value_of}
@@ -11,17 +12,20 @@ pub returns-in-Ok-clause-goals : goal.returns-in-Ok-clause-goals
 returns-in-Ok-clause-goals c =
     let word = c.args.word.now in
     let number : is_number word ≡ true = search rules in
-    let parsed = parse_digits numerals 32 word (Ok c.in-Ok.goals) c.in-Ok.ensures.value.0 (digits_of word number) in
-    asks_for word number c.in-Ok.goals parsed.1 (omega arith)
+    let read : Result ℕ ParseIntError = Ok c.in-Ok.goals in
+    let parsed = parse_digits numerals 32 word read c.in-Ok.ensures.value.0 (digits_of word number) in
+    let value : c.in-Ok.goals ≡ value_of word = parsed.1 in
+    asks_for word number c.in-Ok.goals value (omega arith)
 
 -- the number is too great
 pub returns-in_default-clause-goals : goal.returns-in_default-clause-goals
 returns-in_default-clause-goals c =
     let word = c.args.word.now in
     let number : is_number word ≡ true = search rules in
-    let parsed = parse_digits numerals 32 word (Ok c.in-Ok.goals) c.in-Ok.ensures.value.0 (digits_of word number) in
-    let value = parsed.1 in
-    asks_for_none word number (omega arith)
+    let read : Result ℕ ParseIntError = Ok c.in-Ok.goals in
+    let parsed = parse_digits numerals 32 word read c.in-Ok.ensures.value.0 (digits_of word number) in
+    let value : c.in-Ok.goals ≡ value_of word = parsed.1 in
+    asks_for_none word number (omega (arith, value))
 
 -- and greater than any that is read
 pub returns-in_default-2-clause-goals : goal.returns-in_default-2-clause-goals
