@@ -1,5 +1,5 @@
 -- What each command reads, replies and ends with.
-use Rattle.std.proofs.Common.{◌≡◌, ◌<◌, ◌≤◌, ℕ, inl, inr, List, [], Option, Some, length, codes, refl, arith}
+use Rattle.std.proofs.Common.{◌≡◌, ◌<◌, ℕ, inl, inr, List, [], Option, length, codes, refl, arith}
 use Rattle.std.specs.Prelude.{IfSome}
 use Rattle.alg_universe.specs.declared.universe.Universe.{Ghosts}
 use Rattle.alg_cli.specs.declared.command.Command.{Command}

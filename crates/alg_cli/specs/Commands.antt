@@ -1,5 +1,5 @@
 -- What the words after the program's name ask for, and what it reads then.
-use Rattle.std.specs.Prelude.{ℕ, ◌≤◌, Bool, true, false, not, ◌&&◌, ◌||◌, ◌==◌, nat_le, List, [], ◌∷◌, length, Option, Some, None, String, string_bytes, map, codes, bytes_eq, if◌then◌else◌}
+use Rattle.std.specs.Prelude.{ℕ, ◌≤◌, Bool, false, not, ◌&&◌, ◌||◌, ◌==◌, nat_le, List, [], ◌∷◌, length, Option, Some, None, String, string_bytes, map, codes, bytes_eq, if◌then◌else◌}
 use Rattle.std.specs.Str.{all_ascii_digits}
 use Rattle.std.specs.declared.alloc.Global.{Global}
 use Rattle.alg_load.specs.Limits.{MAX_LOAD}

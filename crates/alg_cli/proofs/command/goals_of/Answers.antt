@@ -1,7 +1,6 @@
-use Rattle.std.proofs.Common.{rules, ◌≡◌, ◌<◌, ℕ, true, Result, Ok, Err, subst, sym, arith}
+use Rattle.std.proofs.Common.{rules, ◌≡◌, ◌<◌, ℕ, true, Result, Ok, Err, arith}
 use Rattle.std.specs.declared.num.ParseIntError.{ParseIntError}
 use Rattle.std.proofs.lemmas.Str.Parse.{parse_digits}
-use Rattle.alg_load.specs.Limits.{MAX_LOAD}
 use Rattle.alg_tokens.specs.Pieces.{value_of}
 use Rattle.alg_cli.specs.Commands.{is_number}
 use Rattle.alg_cli.proofs.Numbers.{numerals, digits_of, some_of, asks_for, asks_for_none}

@@ -1,4 +1,4 @@
-use Rattle.std.proofs.Common.{rules, sym, ◌∙◌}
+use Rattle.std.proofs.Common.{sym, ◌∙◌}
 use Rattle.alg_cli.proofs.Numbers.{first_is_not_zero, not_all_digits}
 use Rattle.alg_cli.proofs.command.is_number.Goals as goal
 
