@@ -13,17 +13,20 @@ use Rattle.alg_cli.specs.Runs.{IsFailure, IsStatusOf}
 -- all commands but the usage read
 pub reads_unless_usage : (c : Command) → c ≢ command.Usage → ReadsInput c
 reads_unless_usage command.Prove other = tt
+reads_unless_usage command.Check other = tt
 reads_unless_usage command.Usage other = absurd (other refl)
 
 -- and work on the input
 pub works_on_input : (c : Command) (left : Option (List ℕ)) (P : List ℕ → Type 0) → ReadsInput c → IfSome left P →
     IfSome (bytes_for c left) P
 works_on_input command.Prove left P reads h = h
+works_on_input command.Check left P reads h = h
 works_on_input command.Usage left P reads h = absurd reads
 
 -- and may refuse it
 pub may_refuse : (c : Command) → ReadsInput c → IsStatusOf c Refused
 may_refuse command.Prove reads = tt
+may_refuse command.Check reads = tt
 may_refuse command.Usage reads = absurd reads
 
 -- a status of a command is no failure
@@ -35,6 +38,9 @@ no_failure c Usage fits = λ no. no
 no_failure command.Prove ReadFault fits = absurd fits
 no_failure command.Prove WriteFault fits = absurd fits
 no_failure command.Prove NoMemory fits = absurd fits
+no_failure command.Check ReadFault fits = absurd fits
+no_failure command.Check WriteFault fits = absurd fits
+no_failure command.Check NoMemory fits = absurd fits
 no_failure command.Usage ReadFault fits = absurd fits
 no_failure command.Usage WriteFault fits = absurd fits
 no_failure command.Usage NoMemory fits = absurd fits
@@ -42,6 +48,7 @@ no_failure command.Usage NoMemory fits = absurd fits
 -- only the usage ends as such
 pub usage_ends : (c : Command) → IsStatusOf c Usage → c ≡ command.Usage
 usage_ends command.Prove fits = absurd fits
+usage_ends command.Check fits = absurd fits
 usage_ends command.Usage fits = refl
 
 -- the usage is what is replied where the input is not read

@@ -1,4 +1,5 @@
 pub mod Answered
+pub mod Checked
 pub mod Commands
 pub mod NoneUpTo
 pub mod Places

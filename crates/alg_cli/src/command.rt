@@ -8,6 +8,8 @@ ghost use Rattle.alg_cli.specs.Commands.{command_of, most_bytes};
 pub enum Command {
     /// Read a file, and write it back with the answers to its goals.
     Prove,
+    /// Read a file with answers, and report on the answer to each of its goals.
+    Check,
     /// Say how the program is used, since the words ask for nothing that it knows.
     Usage,
 }
@@ -19,6 +21,7 @@ impl Command {
     {
         match words {
             [word] if word.as_str() == "prove" => Command::Prove,
+            [word] if word.as_str() == "check" => Command::Check,
             _ => Command::Usage,
         }
     }
@@ -30,6 +33,7 @@ impl Command {
     {
         match self {
             Command::Prove => 1_048_576,
+            Command::Check => 16_777_216,
             Command::Usage => 0,
         }
     }

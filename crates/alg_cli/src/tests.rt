@@ -2,6 +2,7 @@
 
 mod by_field;
 mod by_nsatz;
+mod checks;
 mod nsatz_limits;
 mod rows;
 mod whole_files;
@@ -11,13 +12,13 @@ use crate::status::Status;
 use crate::top::run;
 use alg_outside::{MemSink, MemSource};
 use alg_universe::Rats;
-use rows::{ANSWERED, ROWS};
+use rows::{ANSWERED, ROWS, Row};
 use std::alloc::Global;
 use std::test::Fail;
 
-/// The only word that the program knows.
-fn prove(alloc: Global) -> Result<Vec<String>, Fail> {
-    Ok(vec![in alloc; String::from_str(alloc, "prove")?]?)
+/// One word.
+fn alone(alloc: Global, word: &str) -> Result<Vec<String>, Fail> {
+    Ok(vec![in alloc; String::from_str(alloc, word)?]?)
 }
 
 /// Two pieces, one after the other.
@@ -27,13 +28,18 @@ fn joined(alloc: Global, first: &str, second: &str) -> Result<Vec<u8>, Fail> {
     Ok(all)
 }
 
-/// What `prove` writes for an input, and how it ends.
-fn prove_run(alloc: Global, input: Vec<u8>) -> Result<(Vec<u8>, Status), Fail> {
-    let words = prove(alloc)?;
+/// What one word has the program write for an input, and how the run ends.
+fn run_of(alloc: Global, word: &str, input: Vec<u8>) -> Result<(Vec<u8>, Status), Fail> {
+    let words = alone(alloc, word)?;
     let mut source = MemSource::new(input, 1000, Vec::new(alloc));
     let mut sink = MemSink::new(alloc, 100_000, 1000, Vec::new(alloc))?;
     let status = run::<Rats, _, _>(alloc, words.as_slice(), &mut source, &mut sink);
     Ok((sink.bytes().to_vec(alloc)?, status))
+}
+
+/// What `prove` writes for an input, and how it ends.
+fn prove_run(alloc: Global, input: Vec<u8>) -> Result<(Vec<u8>, Status), Fail> {
+    run_of(alloc, "prove", input)
 }
 
 #[test]
@@ -175,7 +181,7 @@ fn quotients_may_be_190_deep(rt: HostRuntime) -> Result<(), Fail> {
 
 #[test]
 fn a_failed_write_leaves_a_front_of_the_text(rt: HostRuntime) -> Result<(), Fail> {
-    let words = prove(rt.alloc())?;
+    let words = alone(rt.alloc(), "prove")?;
     let input = joined(rt.alloc(), ANSWERED[1].file, "")?;
     let mut source = MemSource::new(input, 1000, Vec::new(rt.alloc()));
     let fails = vec![in rt.alloc(); 2u64]?;
@@ -188,7 +194,7 @@ fn a_failed_write_leaves_a_front_of_the_text(rt: HostRuntime) -> Result<(), Fail
 
 #[test]
 fn after_a_failed_read_nothing_is_written(rt: HostRuntime) -> Result<(), Fail> {
-    let words = prove(rt.alloc())?;
+    let words = alone(rt.alloc(), "prove")?;
     let input = joined(rt.alloc(), ANSWERED[1].file, "")?;
     let fails = vec![in rt.alloc(); 3u64]?;
     let mut source = MemSource::new(input, 16, fails);
@@ -215,7 +221,12 @@ fn an_input_has_at_most_a_mebibyte(rt: HostRuntime) -> Result<(), Fail> {
 
 #[test]
 fn for_other_words_the_usage_is_written_and_nothing_read(rt: HostRuntime) -> Result<(), Fail> {
-    for row in [[].as_slice(), &["Prove"], &["prove", "prove"]] {
+    for row in [
+        [].as_slice(),
+        &["Prove"],
+        &["prove", "prove"],
+        &["check", "check"],
+    ] {
         let mut words = Vec::new(rt.alloc());
         for word in row {
             words.push(String::from_str(rt.alloc(), word)?)?;

@@ -9,6 +9,7 @@ ghost use Rattle.alg_cli.specs.Runs.{IsReply, IsFailure, IsStatusOf, WritesBySta
 ghost use Rattle.alg_cli.specs.Replies.{IsReplyTo, IsFileReply};
 ghost use Rattle.alg_cli.specs.Replies as spec;
 
+use crate::checked::checked;
 use crate::command::Command;
 use crate::status::Status;
 use alg_lines::Answer;
@@ -25,14 +26,15 @@ use std::alloc::{AllocError, Global};
 
 /// What is to be written, and how the run ends once it is.
 #[derive(Drop)]
-struct Reply {
-    text: Vec<u8>,
-    status: Status,
+pub(crate) struct Reply {
+    pub(crate) text: Vec<u8>,
+    pub(crate) status: Status,
 }
 
 /// Does what the words ask for: with the word `prove` it reads the whole input, at most 1,048,576
-/// bytes, and writes the file back with its answers, or its first fault; with other words it writes
-/// the usage. All memory is taken before the first byte is written. `U` has no call that runs, so
+/// bytes, and writes the file back with its answers, or its first fault; with the word `check` it reads
+/// at most 16,777,216 bytes of a file with answers, and writes a report on each goal, or the first
+/// fault; with other words it writes the usage. All memory is taken before the first byte is written. `U` has no call that runs, so
 /// the same program serves every family of structures.
 pub fn run<U: Universe, S: Source, K: Sink>(
     alloc: Global,
@@ -41,7 +43,8 @@ pub fn run<U: Universe, S: Source, K: Sink>(
     sink: &mut K,
 ) -> Status
     // What was written is the reply to the input, or the usage: the file's text with its answers,
-    // each of which is right in every universe that fits, or the first fault.
+    // each of which is right in every universe that fits, or a report on each goal, which is right so
+    // where it is reported proved, or the first fault.
     ensures written { WritesByStatus (IsReply U.Universe (command_of words.now) (S.left source.old)) result
         (change K.Sink sink.old sink.new) }
     // Unless a count of faults rose or memory ran out, the reply was written.
@@ -68,6 +71,8 @@ pub fn run<U: Universe, S: Source, K: Sink>(
 {
     alg_typing::laws::one_reading();
     alg_prover::laws::one_answer();
+    alg_annotated::laws::one_reading();
+    alg_check::laws::one_report();
     let command = Command::of(words);
     if command == Command::Usage {
         return write_reply(sink, b"usage\n", Status::Usage);
@@ -107,6 +112,7 @@ fn reply_to<U: Universe>(alloc: Global, command: Command, bytes: &[u8]) -> Resul
 {
     match command {
         Command::Prove => proved::<U>(alloc, bytes),
+        Command::Check => checked::<U>(alloc, bytes),
         Command::Usage => unreachable!(),
     }
 }
@@ -176,7 +182,7 @@ fn all_some(alloc: Global, answers: Vec<Answer>) -> Result<Vec<Option<Answer>>, 
 }
 
 /// A fault as it is written.
-fn refusal_text(alloc: Global, fault: Refusal) -> Result<Vec<u8>, AllocError>
+pub(crate) fn refusal_text(alloc: Global, fault: Refusal) -> Result<Vec<u8>, AllocError>
     ensures { IfOk result (λ text. text.items ≡ spec.refusal_text fault) }
 {
     let mut text = Vec::from_slice(alloc, b"refused ")?;

@@ -50,7 +50,8 @@ returns-in-Err-TooLarge-clause-always g c = λ read never.
     (change g.K.Sink c.args.sink.now c.write_reply-in-Err-TooLarge.new.sink)) c.of-command.ensures
     (works_on_input k left _ (reads_unless_usage k other)
     (if_told left (λ bytes. c.most_bytes.result < length bytes) _ (λ bytes large.
-    always u c.one_reading.ensures c.one_answer.ensures k bytes (codes "refused large\n") Refused result _ _ never
+    always u c.one_reading.ensures c.one_reading-2.ensures c.one_answer.ensures c.one_report.ensures k bytes
+    (codes "refused large\n") Refused result _ _ never
     (too_large u k bytes (subst (λ most. most < length bytes) c.most_bytes.ensures.most large))
     c.write_reply-in-Err-TooLarge.ensures) larger))
 
@@ -90,6 +91,7 @@ returns-in-Ok-reply_to-clause-always g c = λ read never.
     subst (λ k. RepliesUnlessNoMemory u k left result
     (change g.K.Sink c.args.sink.now c.write_reply-in-Ok-reply_to.new.sink)) c.of-command.ensures
     (works_on_input k left _ (reads_unless_usage k other) (of_told left _ c.in-Ok.bytes.items _ c.in-Ok.ensures.all
-    (always u c.one_reading.ensures c.one_answer.ensures k c.in-Ok.bytes.items written reply.status result _ _ never
+    (always u c.one_reading.ensures c.one_reading-2.ensures c.one_answer.ensures c.one_report.ensures k
+    c.in-Ok.bytes.items written reply.status result _ _ never
     (subst (λ text. IsReplyTo u k c.in-Ok.bytes.items text reply.status) same made)
     c.write_reply-in-Ok-reply_to.ensures)))
