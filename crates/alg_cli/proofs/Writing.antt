@@ -114,8 +114,8 @@ module _ {E : Type 0} (u : Ghosts E) (reading : OneReading) (annotated : OneAnno
       IsReadingOf bytes (Ok file) → ⊥
   never_both bytes file fault one two = let same = reading bytes (Err fault) (Ok file) one two in cc
 
-  never_both_annotated : (bytes : List ℕ) (all : Annotated) (fault : Refusal) → IsAnnotatedReadingOf bytes (Err fault) →
-      IsAnnotatedReadingOf bytes (Ok all) → ⊥
+  never_both_annotated : (bytes : List ℕ) (all : Annotated) (fault : Refusal) →
+      IsAnnotatedReadingOf bytes (Err fault) → IsAnnotatedReadingOf bytes (Ok all) → ⊥
   never_both_annotated bytes all fault one two = let same = annotated bytes (Err fault) (Ok all) one two in cc
 
   -- bytes within the limit have one reply
@@ -133,8 +133,8 @@ module _ {E : Type 0} (u : Ghosts E) (reading : OneReading) (annotated : OneAnno
   within_once command.Prove bytes text other status planned (inr one) (inr two) =
       answered_once bytes text other status planned one two
   within_once command.Check bytes text other status planned (inl one) (inl two) =
-      refused_once (λ fault. IsAnnotatedReadingOf bytes (Err fault)) (one_annotated_fault bytes) text other status planned
-      one two
+      refused_once (λ fault. IsAnnotatedReadingOf bytes (Err fault)) (one_annotated_fault bytes) text other status
+      planned one two
   within_once command.Check bytes text other status planned (inl one) (inr two) =
       absurd (never_both_annotated bytes two.all one.fault one.reads two.reads)
   within_once command.Check bytes text other status planned (inr one) (inl two) =

@@ -5,6 +5,7 @@ mod by_nsatz;
 mod checks;
 mod nsatz_limits;
 mod rows;
+mod spoilt;
 mod whole_files;
 
 use crate::laws::reads_back;

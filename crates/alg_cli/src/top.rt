@@ -31,11 +31,12 @@ pub(crate) struct Reply {
     pub(crate) status: Status,
 }
 
-/// Does what the words ask for: with the word `prove` it reads the whole input, at most 1,048,576
-/// bytes, and writes the file back with its answers, or its first fault; with the word `check` it reads
-/// at most 16,777,216 bytes of a file with answers, and writes a report on each goal, or the first
-/// fault; with other words it writes the usage. All memory is taken before the first byte is written. `U` has no call that runs, so
-/// the same program serves every family of structures.
+/// Does what the words ask for. With the word `prove` it reads the whole input, at most 1,048,576
+/// bytes, and writes the file back with its answers. With the word `check` it reads a file with
+/// answers, at most 16,777,216 bytes, and writes a report on each goal. Of an input that is no such
+/// file both write the first fault. With other words it writes the usage. All memory is taken before
+/// the first byte is written. `U` has no call that runs, so the same program serves every family of
+/// structures.
 pub fn run<U: Universe, S: Source, K: Sink>(
     alloc: Global,
     words: &[String],
