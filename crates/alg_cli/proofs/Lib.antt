@@ -1,6 +1,6 @@
 pub mod Answered
-pub mod Checked
 pub mod Commands
 pub mod NoneUpTo
 pub mod Places
+pub mod Reported
 pub mod Writing

@@ -23,7 +23,7 @@ use Rattle.alg_cli.specs.declared.status.Status.TheVariants.{Done, NotAll, Refus
 use Rattle.alg_cli.specs.Checked.{IsReported, status_of_reports}
 use Rattle.alg_cli.specs.Replies.{IsReplyTo, IsReplyWithin, IsRefused, IsAnswered, refusal_text, status_of}
 use Rattle.alg_cli.specs.Runs.{SinkChange, IsFailure, WritesByStatus, WritesAll, WritesPrefix}
-use Rattle.alg_cli.proofs.Checked.{one_list}
+use Rattle.alg_cli.proofs.Reported.{one_list}
 
 -- all of a text was written with the planned status, or a prefix of it and the count of faults rose
 abbrev pub WritesOrFails : Status → Status → SinkChange → List ℕ → Type 0 → Type 0

@@ -1,5 +1,5 @@
 use Rattle.alg_cli.proofs.Answered.{ok_weaker}
-use Rattle.alg_cli.proofs.Checked.{checked_reply}
+use Rattle.alg_cli.proofs.Reported.{checked_reply}
 use Rattle.alg_cli.proofs.checked.checked.Goals as goal
 
 -- the bytes are an annotated file

@@ -1,4 +1,4 @@
-use Rattle.alg_cli.proofs.Checked.{AreFirst}
+use Rattle.alg_cli.proofs.Reported.{AreFirst}
 use Rattle.alg_cli.proofs.checked.reports_on.Given as goal
 
 -- the goals before this one have reports

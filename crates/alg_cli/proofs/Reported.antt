@@ -1,7 +1,9 @@
 -- What the reports in a reply say, and that there is one for each goal.
 use Rattle.std.proofs.Common.{◌≡◌, ◌<◌, ◌≤◌, ◌+◌, ◌^◌, ◌⊎◌, ℕ, ℤ, zero, suc, inl, inr, List, [], ◌∷◌, ◌++◌, length, Option, None, Some, Ok, refl, ap, ap2, sym, subst, ◌∙◌, arith}
 use Rattle.std.specs.Prelude.{slice_get, slice_index_or, IfSome}
-use Rattle.std.specs.List.{sum_by}
+use Rattle.std.specs.Option.{option_copied}
+use denote.Ref.{Bor}
+use Rattle.std.proofs.lemmas.List.{length_push}
 use Rattle.std.proofs.lemmas.Option.{slice_get_within}
 use Rattle.std.proofs.lemmas.List.Sums.{get_or-le-sum_by}
 use Rattle.alg_annotated.specs.declared.annotated.Annotated.{Annotated}
@@ -99,9 +101,20 @@ next_report all number reports report so_far is =
     let P : ℕ → GoalCheck → Type 0 =
     λ i r. IsReport all.file (goal_at all.file i) (slice_index_or all.answers i None) r in
     record {
-      count = simp (length, so_far.count);
+      count = length_push reports report ∙ ap (λ n. n + 1) so_far.count;
       each = before_or_last P reports report so_far.each (subst (λ n. P n report) (sym so_far.count) is);
     }
+
+-- the reports on all goals are those of the file
+pub all_reported : (all : Annotated) (number : ℕ) (reports : List GoalCheck) → number ≡ length all.file.goals →
+    AreFirst all number reports → AreReports all.file all.answers reports
+all_reported all number reports end so_far = record { count = so_far.count ∙ end; each = so_far.each }
+
+-- what holds of a value holds of what a reference to it reads
+pub behind : {T : Type 0} (P : T → Type 0) (reference : Option (Bor T)) (value : Option T) →
+    option_copied reference ≡ value → IfSome value P → IfSome reference (λ r. P r.now)
+behind P None value same h = tt
+behind P (Some r) value same h = subst (λ v. IfSome v P) (sym same) h
 
 -- at most so many as there are bytes are few
 few_in : (uses : List Use) (answer : Option Answer) → length uses + lines_in answer ≤ MAX_TEXT →
