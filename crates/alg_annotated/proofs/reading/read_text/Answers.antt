@@ -27,3 +27,24 @@ read_statement-requires-clause-size c = c.requires
 
 pub read_statement-requires-clause-boundary : goal.read_statement-requires-clause-boundary
 read_statement-requires-clause-boundary c = c.statements.invariant.boundary
+
+-- a statement can't be read, or there is no memory
+pub returns-in_err-raw-clause-ok : goal.returns-in_err-raw-clause-ok
+returns-in_err-raw-clause-ok c = error_tells_nothing _ _ c.from_residual.result c.from_residual.ensures.1
+
+pub returns-in_err-raw-clause-valid : goal.returns-in_err-raw-clause-valid
+returns-in_err-raw-clause-valid c = error_tells_nothing _ _ c.from_residual.result c.from_residual.ensures.1
+
+pub returns-in_err-raw-clause-answers : goal.returns-in_err-raw-clause-answers
+returns-in_err-raw-clause-answers c = error_tells_nothing _ _ c.from_residual.result c.from_residual.ensures.1
+
+pub returns-in_err-raw-clause-few : goal.returns-in_err-raw-clause-few
+returns-in_err-raw-clause-few c = error_tells_nothing _ _ c.from_residual.result c.from_residual.ensures.1
+
+pub returns-in_err-raw-clause-refused : goal.returns-in_err-raw-clause-refused
+returns-in_err-raw-clause-refused c =
+    let text = c.args.text.now in
+    passed_on _ c.from_residual.result _ c.from_residual.ensures.1
+    (told_reading (annotated_way text) text nothing_yet c.statements.at (so_far c.statements.now) _
+    c.statements.invariant.decides
+    (subst (λ (p : Place). IsRead p text c.statements.at _) c.place-place.ensures c.in_err-raw.ensures.read))
