@@ -70,12 +70,12 @@ last_grows : (change : Option Answer → Option Answer) (given : List (Option An
     sum_by lines_in (with_last change given) ≤ sum_by lines_in given + 1
 last_grows change given most = elim (ending given) as (λ xs _. sum_by lines_in (with_last change xs)
     ≤ sum_by lines_in xs + 1) [
-  | empty ↦ grind (arith)
-  | last front x ↦
-      let new = ap (sum_by lines_in) (with_last-append change front x) ∙ sum_with lines_in front (change x) in
-      let old = sum_with lines_in front x in
-      omega (arith, new, old, most x)
-]
+      | empty ↦ grind (arith)
+      | last front x ↦
+          let new = ap (sum_by lines_in) (with_last-append change front x) ∙ sum_with lines_in front (change x) in
+          let old = sum_with lines_in front x in
+          omega (arith, new, old, most x)
+    ]
 
 uses_same : (file : File) (text : List ℕ) (method : RawMethod) →
     length (uses_of (method_of file text method)) ≡ uses_in method

@@ -80,7 +80,9 @@ impl Scope<'_> {
         ensures { IfOk result (λ atom. atom
             ≡ atom_of self.now.declared.now self.now.text.now (names.now.homs.items ++ names.now.var ∷ [])) }
     {
-        let path = self.declared.path_of(alloc, self.text, names.homs.as_slice())?;
+        let path = self
+            .declared
+            .path_of(alloc, self.text, names.homs.as_slice())?;
         let var = self.declared.number_at(self.text, names.var);
         Ok(Atom {
             path: Seq::from_vec(path),

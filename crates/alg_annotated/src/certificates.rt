@@ -21,9 +21,17 @@ fn with_line(answer: Answer, line: Line) -> Result<Answer, NoMemory>
 {
     match answer {
         Answer::Certified { constants, cert } => {
-            let Cert { power, mut lines, steps } = cert;
+            let Cert {
+                power,
+                mut lines,
+                steps,
+            } = cert;
             lines.push(line)?;
-            let cert = Cert { power, lines, steps };
+            let cert = Cert {
+                power,
+                lines,
+                steps,
+            };
             Ok(Answer::Certified { constants, cert })
         }
         other => Ok(other),
@@ -36,9 +44,17 @@ fn with_step(answer: Answer, step: GoalStep) -> Result<Answer, NoMemory>
 {
     match answer {
         Answer::Certified { constants, cert } => {
-            let Cert { power, lines, mut steps } = cert;
+            let Cert {
+                power,
+                lines,
+                mut steps,
+            } = cert;
             steps.push(step)?;
-            let cert = Cert { power, lines, steps };
+            let cert = Cert {
+                power,
+                lines,
+                steps,
+            };
             Ok(Answer::Certified { constants, cert })
         }
         other => Ok(other),
@@ -62,7 +78,15 @@ impl Scope<'_> {
             ≡ with_part self.now.declared.now self.now.text.now (unwrap_or atoms.now []) kind.now (Some answer)) }
     {
         match kind {
-            RawKind::Line { a, m, i, b, n, j, d } => {
+            RawKind::Line {
+                a,
+                m,
+                i,
+                b,
+                n,
+                j,
+                d,
+            } => {
                 let line = Line {
                     a: a.value,
                     m: self.monomial_of(alloc, atoms, m)?,

@@ -144,7 +144,11 @@ impl Scope<'_> {
             (mono_faults self.now.declared.now self.now.text.now (unwrap_or atoms.now []) mono.now)) }
     {
         let factors = self.factors_fault(alloc, atoms, mono.factors.as_slice())?;
-        let degree = fault_where(are_too_many(mono.factors.as_slice()), Code::Line, mono.start);
+        let degree = fault_where(
+            are_too_many(mono.factors.as_slice()),
+            Code::Line,
+            mono.start,
+        );
         Ok(earlier(degree, factors))
     }
 
@@ -198,8 +202,7 @@ impl Scope<'_> {
         mono: &RawMono,
     ) -> Result<Mono, NoMemory>
         requires well_read { IsWellMono self.now.text.now mono.now }
-        requires faultless
-            { mono_faults self.now.declared.now self.now.text.now (unwrap_or atoms.now []) mono.now ≡ [] }
+        requires faultless { mono_faults self.now.declared.now self.now.text.now (unwrap_or atoms.now []) mono.now ≡ [] }
         ensures { IfOk result (λ m. m
             ≡ monomial_of self.now.declared.now self.now.text.now (unwrap_or atoms.now []) mono.now) }
     {

@@ -116,7 +116,11 @@ fn closed(answers: Vec<Option<Answer>>, last: Open) -> Result<Vec<Option<Answer>
         Open::Nothing => Ok(answers),
         Open::Goal => with_one(answers, None),
         Open::Answer(answered) => {
-            let Answered { atoms, place: _, answer } = answered;
+            let Answered {
+                atoms,
+                place: _,
+                answer,
+            } = answered;
             drop(atoms);
             with_one(answers, Some(answer))
         }
@@ -155,7 +159,11 @@ impl Progress {
         ensures ok { IfOk result (λ all. all ≡ annotated_of (so_far self)) }
         ensures valid { IfOk result (λ all. IsValid all.file) }
     {
-        let Progress { declared, answers, last } = self;
+        let Progress {
+            declared,
+            answers,
+            last,
+        } = self;
         let answers = closed(answers, last)?;
         Ok(Annotated {
             file: declared.into_file(),
@@ -166,7 +174,12 @@ impl Progress {
     /// With one more statement, or its first fault. Linear in the statement; the table of a goal is made
     /// at its answer.
     #[tactic(none)]
-    pub(crate) fn with_statement(self, alloc: Global, text: &str, raw: Raw) -> Result<Progress, FileEnd>
+    pub(crate) fn with_statement(
+        self,
+        alloc: Global,
+        text: &str,
+        raw: Raw,
+    ) -> Result<Progress, FileEnd>
         requires size { length text.now ≤ MAX_TEXT }
         requires well_read { (at : ℕ) × IsWellRead text.now at raw }
         requires may_stand { MayStand (place_of self.last) raw.kind }
@@ -209,11 +222,19 @@ impl Progress {
         ensures refused { IfErr result
             (λ end. RefusesWith end (λ fault. texts.first_fault self.declared text.now raw ≡ Some fault)) }
     {
-        let Progress { mut declared, answers, last } = self;
+        let Progress {
+            mut declared,
+            answers,
+            last,
+        } = self;
         let answers = closed(answers, last)?;
         let last = opened(&raw.kind);
         declared.add(alloc, text, raw)?;
-        Ok(Progress { declared, answers, last })
+        Ok(Progress {
+            declared,
+            answers,
+            last,
+        })
     }
 
     /// With an answer to the last goal.
@@ -236,7 +257,11 @@ impl Progress {
         ensures refused { IfErr result
             (λ end. RefusesWith end (λ fault. texts.first_fault self.declared text.now raw.now ≡ Some fault)) }
     {
-        let Progress { declared, answers, last: _ } = self;
+        let Progress {
+            declared,
+            answers,
+            last: _,
+        } = self;
         let scope = Scope {
             declared: &declared,
             text,
@@ -272,7 +297,11 @@ impl Progress {
         ensures refused { IfErr result
             (λ end. RefusesWith end (λ fault. texts.first_fault self.declared text.now raw.now ≡ Some fault)) }
     {
-        let Progress { declared, answers, last } = self;
+        let Progress {
+            declared,
+            answers,
+            last,
+        } = self;
         match last {
             Open::Answer(answered) => {
                 let scope = Scope {
@@ -308,7 +337,11 @@ impl Answered {
         ensures refused { IfErr result (λ end. RefusesWith end
             (λ fault. texts.first_fault scope.now.declared.now scope.now.text.now raw.now ≡ Some fault)) }
     {
-        let Answered { atoms, place, answer } = self;
+        let Answered {
+            atoms,
+            place,
+            answer,
+        } = self;
         if let Some(fault) = scope.first_fault(alloc, &atoms, raw)? {
             return Err(FileEnd::Refused(fault));
         }

@@ -103,7 +103,10 @@ impl Scope<'_> {
             }
             RawAnswer::No { at, .. } => self.mono_fault(alloc, atoms, at),
             RawAnswer::ZeroDenominator { denominator } => {
-                Ok(self.declared.term_sorts(self.text, denominator, self.last_goal()))
+                Ok(
+                    self.declared
+                        .term_sorts(self.text, denominator, self.last_goal()),
+                )
             }
             RawAnswer::NoneUpTo(number) | RawAnswer::GaveUp(number) => Ok(count_fault(number)),
             RawAnswer::Range | RawAnswer::Degree | RawAnswer::Atoms => Ok(None),

@@ -99,16 +99,28 @@ fn declarations_and_goals_are_read_as_in_files_without_answers(rt: HostRuntime) 
         ("", goals(0)),
         ("ring R. # nothing", goals(0)),
         ("ring R. var x : R. goal x = 0 by ring.", goals(1)),
-        ("ring R. var x : R. goal x = 0 by ring. goal x = 1 by ring. ring S.", goals(2)),
+        (
+            "ring R. var x : R. goal x = 0 by ring. goal x = 1 by ring. ring S.",
+            goals(2),
+        ),
         ("ring R. ring R.", Found::Fault(6, 13)),
         ("var x : R.", Found::Fault(7, 8)),
         ("ring R. goal 1 = 0 by ring.", Found::Fault(10, 15)),
         ("ring R. var x : R", Found::Fault(5, 17)),
         ("ring R. proved.", Found::Fault(4, 8)),
-        ("ring R. line 1, 1, 1 minus 1, 1, 1 over 1.", Found::Fault(4, 8)),
+        (
+            "ring R. line 1, 1, 1 minus 1, 1, 1 over 1.",
+            Found::Fault(4, 8),
+        ),
         ("ring R. @", Found::Fault(2, 8)),
     ] {
-        assert!(rt; what_is_found(rt.alloc(), text.as_bytes()) == want, "{text}");
+        assert!(rt;
+            what_is_found(rt.alloc(), text.as_bytes()) == want,
+            "{text}"
+        );
     }
-    assert!(rt; what_is_found(rt.alloc(), &[0x72, 0xFF]) == Found::Fault(1, 1), "no UTF-8");
+    assert!(rt;
+        what_is_found(rt.alloc(), &[0x72, 0xFF]) == Found::Fault(1, 1),
+        "no UTF-8"
+    );
 }

@@ -102,10 +102,9 @@ impl Declared {
             text,
         };
         match &raw.kind {
-            RawKind::End
-            | RawKind::Answer(_)
-            | RawKind::Line { .. }
-            | RawKind::Step { .. } => Ok(()),
+            RawKind::End | RawKind::Answer(_) | RawKind::Line { .. } | RawKind::Step { .. } => Ok(
+                (),
+            ),
             RawKind::Sort { kind, name, char0 } => {
                 self.add_sort(alloc, text, *name, *kind, *char0)
             }

@@ -149,10 +149,9 @@ impl Scope<'_> {
             (λ fault. fault ≡ first_of (name_faults self.now.declared.now self.now.text.now kind.now)) }
     {
         match kind {
-            RawKind::End
-            | RawKind::Answer(_)
-            | RawKind::Line { .. }
-            | RawKind::Step { .. } => Ok(None),
+            RawKind::End | RawKind::Answer(_) | RawKind::Line { .. } | RawKind::Step { .. } => Ok(
+                None,
+            ),
             RawKind::Sort { name, .. } => Ok(self.new_name(*name)),
             RawKind::Hom { name, from, to } => {
                 let sorts = earlier(

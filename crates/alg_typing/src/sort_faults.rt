@@ -180,9 +180,7 @@ impl Scope<'_> {
             | RawKind::Vars { .. }
             | RawKind::Answer(_)
             | RawKind::Line { .. }
-            | RawKind::Step { .. } => {
-                None
-            }
+            | RawKind::Step { .. } => { None }
             RawKind::Hyp { equation, .. } => {
                 self.equation_fault(equation, self.sort_of_sides(equation), false)
             }

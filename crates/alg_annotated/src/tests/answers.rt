@@ -32,7 +32,10 @@ fn answers_to_goals_by_ring(rt: HostRuntime) {
         ("proved if f <> 0.", Found::Fault(8, 10)),
         ("proved if y/y <> 0, z <> 0.", Found::Fault(7, 20)),
         // of two faults of sorts the one at the lesser byte
-        ("proved if y <> 0, y/y <> 0, f(y) <> 0.", Found::Fault(13, 19)),
+        (
+            "proved if y <> 0, y/y <> 0, f(y) <> 0.",
+            Found::Fault(13, 19),
+        ),
         // answers of another form, once their names are resolved
         ("zero denominator y.", Found::Fault(17, 0)),
         ("zero denominator z.", Found::Fault(7, 17)),
@@ -46,7 +49,10 @@ fn answers_to_goals_by_ring(rt: HostRuntime) {
         ("var u : R. proved.", Found::Fault(4, 11)),
         ("proved. step 1 minus 1, 1, 1 over 1.", Found::Fault(4, 8)),
     ] {
-        assert!(rt; what_is_behind(rt.alloc(), BY_RING, answer) == want, "{answer}");
+        assert!(rt;
+            what_is_behind(rt.alloc(), BY_RING, answer) == want,
+            "{answer}"
+        );
     }
 }
 
@@ -81,7 +87,10 @@ fn monomials_are_over_the_atoms_of_the_goal(rt: HostRuntime) {
             Found::Fault(18, 6),
         ),
     ] {
-        assert!(rt; what_is_behind(rt.alloc(), BY_RING, answer) == want, "{answer}");
+        assert!(rt;
+            what_is_behind(rt.alloc(), BY_RING, answer) == want,
+            "{answer}"
+        );
     }
 }
 
@@ -101,7 +110,10 @@ fn answers_to_goals_by_field(rt: HostRuntime) {
         ("none up to power 1.", Found::Fault(17, 0)),
         ("gave up after 0.", Found::Fault(17, 0)),
     ] {
-        assert!(rt; what_is_behind(rt.alloc(), BY_FIELD, answer) == want, "{answer}");
+        assert!(rt;
+            what_is_behind(rt.alloc(), BY_FIELD, answer) == want,
+            "{answer}"
+        );
     }
 }
 
@@ -129,6 +141,9 @@ fn answers_to_goals_by_nsatz(rt: HostRuntime) {
         ("no at zz : 1 and 0.", Found::Fault(7, 6)),
         ("zero denominator x.", Found::Fault(17, 0)),
     ] {
-        assert!(rt; what_is_behind(rt.alloc(), BY_NSATZ, answer) == want, "{answer}");
+        assert!(rt;
+            what_is_behind(rt.alloc(), BY_NSATZ, answer) == want,
+            "{answer}"
+        );
     }
 }

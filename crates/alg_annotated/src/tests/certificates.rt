@@ -20,28 +20,61 @@ fn lines_and_steps_of_the_first_format(rt: HostRuntime) {
             "line 1, x, 2 minus 1, y, 1 over 1. line 1, 1, 3 minus 0, 1, 1 over 1. step 1 minus 1, x, 3 over 1.",
             certificate(2, 1),
         ),
-        ("step 1 minus 1, 1, 1 over 1. step 1 minus 1, 1, 1 over 1.", certificate(0, 2)),
+        (
+            "step 1 minus 1, 1, 1 over 1. step 1 minus 1, 1, 1 over 1.",
+            certificate(0, 2),
+        ),
         // a step ends the lines, and a declaration all of them
         (
             "step 1 minus 1, 1, 1 over 1. line 1, 1, 2 minus 1, 1, 1 over 1.",
             Found::Fault(4, 29),
         ),
-        ("var z : D. step 1 minus 1, 1, 1 over 1.", Found::Fault(4, 11)),
+        (
+            "var z : D. step 1 minus 1, 1, 1 over 1.",
+            Found::Fault(4, 11),
+        ),
         // lines and steps of the second format
         ("line 1, 2 minus 1, 1.", Found::Fault(4, 8)),
         ("step 1 minus 1, 1.", Found::Fault(4, 17)),
         // line numbers
-        ("line 1, 1, 4294967295 minus 1, 1, 4294967295 over 1.", certificate(1, 0)),
-        ("line 1, 1, 4294967296 minus 1, 1, 1 over 1.", Found::Fault(18, 11)),
-        ("line 1, 1, 1 minus 1, 1, 4294967296 over 1.", Found::Fault(18, 25)),
-        ("step 1 minus 1, 1, 4294967296 over 1.", Found::Fault(18, 19)),
+        (
+            "line 1, 1, 4294967295 minus 1, 1, 4294967295 over 1.",
+            certificate(1, 0),
+        ),
+        (
+            "line 1, 1, 4294967296 minus 1, 1, 1 over 1.",
+            Found::Fault(18, 11),
+        ),
+        (
+            "line 1, 1, 1 minus 1, 1, 4294967296 over 1.",
+            Found::Fault(18, 25),
+        ),
+        (
+            "step 1 minus 1, 1, 4294967296 over 1.",
+            Found::Fault(18, 19),
+        ),
         // monomials: names first, then the fault at the least byte
-        ("line 1, y^1001, 1 minus 1, z, 1 over 1.", Found::Fault(7, 27)),
-        ("line 1, y^1001, 4294967296 minus 1, 1, 1 over 1.", Found::Fault(18, 8)),
-        ("line 1, x, 4294967296 minus 1, y^1001, 1 over 1.", Found::Fault(18, 11)),
-        ("step 1 minus 1, x*y^1000, 4294967296 over 1.", Found::Fault(18, 16)),
+        (
+            "line 1, y^1001, 1 minus 1, z, 1 over 1.",
+            Found::Fault(7, 27),
+        ),
+        (
+            "line 1, y^1001, 4294967296 minus 1, 1, 1 over 1.",
+            Found::Fault(18, 8),
+        ),
+        (
+            "line 1, x, 4294967296 minus 1, y^1001, 1 over 1.",
+            Found::Fault(18, 11),
+        ),
+        (
+            "step 1 minus 1, x*y^1000, 4294967296 over 1.",
+            Found::Fault(18, 16),
+        ),
     ] {
-        assert!(rt; what_is_behind(rt.alloc(), FORMAT_ONE, behind) == want, "{behind}");
+        assert!(rt;
+            what_is_behind(rt.alloc(), FORMAT_ONE, behind) == want,
+            "{behind}"
+        );
     }
 }
 
@@ -51,9 +84,18 @@ fn lines_and_steps_of_the_second_format(rt: HostRuntime) {
     for (behind, want) in [
         ("", ONE_ANSWER),
         ("line 1, 2 minus -1, 1 over 2.", certificate(1, 0)),
-        ("line 1, x, 2 minus 1, y, 1. step 1 minus 1, 3.", certificate(1, 1)),
-        ("step 1 minus 1, x*y, 1. step 1 minus 1, 1 over 1.", certificate(0, 2)),
-        ("step 1 minus 1, 1. line 1, 2 minus -1, 1.", Found::Fault(4, 19)),
+        (
+            "line 1, x, 2 minus 1, y, 1. step 1 minus 1, 3.",
+            certificate(1, 1),
+        ),
+        (
+            "step 1 minus 1, x*y, 1. step 1 minus 1, 1 over 1.",
+            certificate(0, 2),
+        ),
+        (
+            "step 1 minus 1, 1. line 1, 2 minus -1, 1.",
+            Found::Fault(4, 19),
+        ),
         // lines and steps of the first format
         ("line 1, 1, 2 minus -1, 1 over 2.", Found::Fault(4, 9)),
         ("step 1 minus 1, 1, 1 over 1.", Found::Fault(4, 17)),
@@ -62,7 +104,10 @@ fn lines_and_steps_of_the_second_format(rt: HostRuntime) {
         ("step 1 minus 1, x*y^1000, 1.", Found::Fault(18, 16)),
         ("step 1 minus 1, z, 4294967296.", Found::Fault(7, 16)),
     ] {
-        assert!(rt; what_is_behind(rt.alloc(), FORMAT_TWO, behind) == want, "{behind}");
+        assert!(rt;
+            what_is_behind(rt.alloc(), FORMAT_TWO, behind) == want,
+            "{behind}"
+        );
     }
 }
 
@@ -78,7 +123,10 @@ fn certificates_that_are_read_though_they_are_bad(rt: HostRuntime) {
         "  proved power 1 if 2 <> 0.\n  step 2 minus 1, 1, 2 over 1.\n",
         "  proved power 1.\n  step 2 minus 1, 1, 1 over 1.\n",
     ] {
-        assert!(rt; what_is_behind(rt.alloc(), STEP_ALONE, behind) == certificate(0, 1), "{behind}");
+        assert!(rt;
+            what_is_behind(rt.alloc(), STEP_ALONE, behind) == certificate(0, 1),
+            "{behind}"
+        );
     }
 }
 
@@ -91,11 +139,23 @@ const CERTIFICATE: &str = "domain D.\nvar x y : D.\nhyp P : x + y = 0.\nhyp Q : 
 fn a_certificate_that_is_changed(rt: HostRuntime) {
     // Each row: what is changed, what stands in its place, and what the text is.
     for (old, new, want) in [
-        ("line 1, 1, 2 minus", "line 1, 1, 3 minus", certificate(1, 2)),
+        (
+            "line 1, 1, 2 minus",
+            "line 1, 1, 3 minus",
+            certificate(1, 2),
+        ),
         ("over 2", "over 0", certificate(1, 2)),
         ("over 2", "over 3", certificate(1, 2)),
-        ("line 1, 1, 2 minus", "line 1, 1, 4294967295 minus", certificate(1, 2)),
-        ("line 1, 1, 2 minus", "line 1, 1, 4294967296 minus", Found::Fault(18, 154)),
+        (
+            "line 1, 1, 2 minus",
+            "line 1, 1, 4294967295 minus",
+            certificate(1, 2),
+        ),
+        (
+            "line 1, 1, 2 minus",
+            "line 1, 1, 4294967296 minus",
+            Found::Fault(18, 154),
+        ),
         (
             "line 1,",
             "line 170141183460469231731687303715884105727,",
@@ -129,7 +189,10 @@ fn a_certificate_that_is_cut(rt: HostRuntime) {
             241 | 242 => Some((1, 1, 1, 2)),
             _ => None,
         };
-        let is = match (want, what_is_found(rt.alloc(), &CERTIFICATE.as_bytes()[..length])) {
+        let is = match (
+            want,
+            what_is_found(rt.alloc(), &CERTIFICATE.as_bytes()[..length]),
+        ) {
             (
                 Some(counts),
                 Found::Read {

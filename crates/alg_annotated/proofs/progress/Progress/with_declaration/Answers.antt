@@ -23,8 +23,7 @@ returns-clause-ok c =
     ap (λ (xs : List (Option Answer)). xs ++ answers_open c.opened-last.result) c.in_ok-answers.ensures
     ∙ ap (λ (o : Open). given ++ answers_open o) c.opened-last.ensures ∙ declared_answers file text given raw.kind other in
     let place : place_of c.opened-last.result ≡ place_behind (place_of c.args.self.last) raw.kind =
-    ap place_of c.opened-last.ensures ∙ declared_place (place_of c.args.self.last) raw.kind other in
-    (
+    ap place_of c.opened-last.ensures ∙ declared_place (place_of c.args.self.last) raw.kind other in (
       first_is_same file text raw other ∙ c.in_ok-add.ensures.ok.0,
       λ i. record { file = c.in_ok-add.ensures.ok.1 i; answers = answers i; place = place i },
     )
