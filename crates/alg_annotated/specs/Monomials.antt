@@ -1,5 +1,5 @@
 -- The monomials of answers: their atoms, and the faults of monomials over the atoms of a goal.
-use Rattle.std.specs.Prelude.{ℕ, not, List, [], ◌∷◌, ◌++◌, flat_map, map, is_some, nat_lt, position, sum_by}
+use Rattle.std.specs.Prelude.{ℕ, not, List, [], ◌∷◌, ◌++◌, flat_map, map, is_some, nat_lt, position, sum_by, All}
 use Rattle.std.specs.Int.RustNames.{unsigned_abs}
 use Rattle.std.specs.Option.{option_map_or}
 use Rattle.std.specs.Ordering.{nat_cmp}
@@ -15,6 +15,7 @@ use Rattle.alg_reader.specs.declared.raw.RawFactor.{RawFactor, out-RawFactor}
 use Rattle.alg_reader.specs.declared.raw.RawMono.{RawMono, out-RawMono}
 use Rattle.alg_reader.specs.declared.raw.Span.{Span}
 use Rattle.alg_reader.specs.RawMonos.{names_in_factor, start_of}
+use Rattle.alg_reader.specs.WellRead.{IsNameAt}
 use Rattle.alg_reify.specs.Numbered.{number_of}
 use Rattle.alg_reify.specs.Table.{atom_eq}
 use Rattle.alg_typing.specs.Faults.{fault_if}
@@ -29,6 +30,10 @@ factors_of m = (out-RawMono m).factors
 -- the exponent of a factor: 1 where none is written
 abbrev pub exponent_of : RawFactor → ℕ
 exponent_of f = option_map_or (λ n. unsigned_abs n.value) (out-RawFactor f).exponent 1
+
+-- each name of the factor is one in the text
+abbrev pub HasNames : List ℕ → RawFactor → Type 0
+HasNames text f = All (IsNameAt text) (names_in_factor f)
 
 -- the degree of a monomial as it is written: its exponents add up
 abbrev pub written_degree : RawMono → ℕ
@@ -64,9 +69,9 @@ module _ (file : File) (text : List ℕ) where
     abbrev pub factor_fault : RawFactor → List Refusal
     factor_fault f = fault_if (not (is_some (position (atom_eq (factor_atom f)) atoms))) code.Line (start_of f)
 
-    -- the factors, each as the number of its atom with its exponent
-    abbrev pub pairs_of : RawMono → List (ℕ × ℕ)
-    pairs_of m = map (λ f. (number_of atoms (factor_atom f), exponent_of f)) (factors_of m)
+    -- a factor as the number of its atom with its exponent
+    abbrev pub factor_pair : RawFactor → ℕ × ℕ
+    factor_pair f = (number_of atoms (factor_atom f), exponent_of f)
 
     -- the faults of a monomial: its degree is over the greatest, or an atom is none of these
     abbrev pub mono_faults : RawMono → List Refusal
@@ -76,4 +81,4 @@ module _ (file : File) (text : List ℕ) where
 
     -- the monomial over the numbers of the atoms: exponents of one atom add up
     abbrev pub monomial_of : RawMono → Monomial
-    monomial_of m = collect nat_cmp exponents (pairs_of m)
+    monomial_of m = collect nat_cmp exponents (map factor_pair (factors_of m))

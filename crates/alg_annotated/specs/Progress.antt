@@ -1,9 +1,11 @@
 -- What the reader holds between two statements.
-use Rattle.std.specs.Prelude.{◌≡◌, List, [], ◌∷◌, ◌++◌, length, Option, None, Some, unwrap_or}
+use Rattle.std.specs.Prelude.{◌≡◌, List, [], ◌∷◌, ◌++◌, Option, None, Some, unwrap_or}
 use Rattle.alg_lines.specs.declared.answer.Answer.{Answer}
 use Rattle.alg_terms.specs.declared.file.File.{File}
 use Rattle.alg_reader.specs.declared.place.Place.{Place}
 use Rattle.alg_reader.specs.declared.place.Place.TheVariants.{Start, AfterGoal}
+use Rattle.alg_reader.specs.declared.raw.RawKind.{RawKind}
+use Rattle.alg_reader.specs.declared.raw.RawKind.TheVariants as raws
 use Rattle.alg_reify.specs.Table.{goal_atoms}
 use Rattle.alg_annotated.specs.declared.progress.Open.{Open}
 use Rattle.alg_annotated.specs.declared.progress.Open.TheVariants as opens
@@ -16,6 +18,11 @@ abbrev pub answers_open : Open → List (Option Answer)
 answers_open opens.Nothing = []
 answers_open opens.Goal = None ∷ []
 answers_open (opens.Answer answered) = Some answered.answer ∷ []
+
+-- what is open behind a declaration or a goal
+abbrev pub opened : RawKind → Open
+opened (raws.Goal e method method_at) = opens.Goal
+opened kind = opens.Nothing
 
 -- the place of the next statement
 abbrev pub place_of : Open → Place
@@ -36,8 +43,3 @@ abbrev pub HasTable : File → Open → Type 0
 HasTable file opens.Nothing = Unit {0}
 HasTable file opens.Goal = Unit {0}
 HasTable file (opens.Answer answered) = unwrap_or answered.atoms [] ≡ goal_atoms file (last_goal file)
-
--- each goal has an answer or none, and an open answer has the goal's table
-pub record IsSound (now : Progress) : Type 0 where
-  pub count : length (so_far now).answers ≡ length now.declared.goals
-  pub table : HasTable now.declared now.last

@@ -1,12 +1,10 @@
 //! The atoms of the factors of monomials: a variable under morphisms, by their names.
 
-ghost use Rattle.std.specs.Prelude.{◌≡◌, ◌++◌, ◌∷◌, [], map, position, unwrap_or, All, IfOk, OnOk};
+ghost use Rattle.std.specs.Prelude.{◌≡◌, ◌++◌, ◌∷◌, [], position, unwrap_or, All, IfOk, OnOk};
 ghost use Rattle.alg_reader.specs.RawMonos.{names_in_factor};
 ghost use Rattle.alg_reader.specs.WellRead.{IsNameAt};
-ghost use Rattle.alg_reify.specs.Numbered.{number_of};
 ghost use Rattle.alg_reify.specs.Table.{atom_eq};
 ghost use Rattle.alg_typing.specs.Faults.{first_of};
-ghost use Rattle.alg_typing.specs.Resolved.{number_at};
 ghost use Rattle.alg_annotated.specs.Monomials.{atom_names, atom_of};
 
 use crate::scope::Scope;
@@ -67,11 +65,9 @@ impl Scope<'_> {
         ensures { result ≡ first_of
             (atom_names self.now.declared.now self.now.text.now (names.now.homs.items ++ names.now.var ∷ [])) }
     {
-        let mut first = None;
-        for hom in &names.homs {
-            first = earlier(first, self.declared.hom_fault(self.text, *hom));
-        }
-        earlier(first, self.declared.var_fault(self.text, names.var))
+        let homs = self.declared.path_fault(self.text, names.homs.as_slice());
+        let var = self.declared.var_fault(self.text, names.var);
+        earlier(homs, var)
     }
 
     /// The atom of some names.
@@ -81,23 +77,11 @@ impl Scope<'_> {
         ensures { IfOk result (λ atom. atom
             ≡ atom_of self.now.declared.now self.now.text.now (names.now.homs.items ++ names.now.var ∷ [])) }
     {
-        let path = self.numbers_at(alloc, &names.homs)?;
+        let path = self.declared.path_of(alloc, self.text, names.homs.as_slice())?;
+        let var = self.declared.number_at(self.text, names.var);
         Ok(Atom {
             path: Seq::from_vec(path),
-            var: self.declared.number_at(self.text, names.var),
+            var,
         })
-    }
-
-    /// The numbers of what some names are declared as.
-    fn numbers_at(&self, alloc: Global, names: &[Span]) -> Result<Vec<u32>, NoMemory>
-        requires { All (IsNameAt self.now.text.now) names.now }
-        ensures { IfOk result
-            (λ numbers. numbers.items ≡ map (number_at self.now.declared.now self.now.text.now) names.now) }
-    {
-        let mut numbers = Vec::new(alloc);
-        for name in names {
-            numbers.push(self.declared.number_at(self.text, *name))?;
-        }
-        Ok(numbers)
     }
 }

@@ -1,11 +1,11 @@
 //! Monomials of answers: their faults, and the monomials over the numbers of a table's atoms.
 
-ghost use Rattle.std.specs.Prelude.{◌≡◌, ◌≤◌, [], nat_lt, unwrap_or, All, IfOk, flat_map};
+ghost use Rattle.std.specs.Prelude.{◌≡◌, ◌≤◌, [], nat_lt, unwrap_or, All, IfOk, flat_map, map, sum_by};
 ghost use Rattle.alg_mono.specs.Monomials.{MAX_DEGREE};
-ghost use Rattle.alg_reader.specs.RawMonos.{names_in_factor};
-ghost use Rattle.alg_reader.specs.WellRead.{IsNameAt, IsWellMono};
+ghost use Rattle.alg_reader.specs.WellRead.{IsWellMono};
+ghost use Rattle.alg_reify.specs.Numbered.{number_of};
 ghost use Rattle.alg_typing.specs.Faults.{first_of};
-ghost use Rattle.alg_annotated.specs.Monomials.{exponent_of, factors_of, written_degree, factor_names, mono_names, factor_atom, factor_fault, mono_faults, pairs_of, monomial_of};
+ghost use Rattle.alg_annotated.specs.Monomials.{HasNames, exponent_of, factor_names, mono_names, factor_atom, factor_fault, factor_pair, mono_faults, monomial_of};
 
 use crate::atoms::{find, names_of};
 use crate::scope::Scope;
@@ -30,12 +30,12 @@ fn exponent_of(factor: &RawFactor) -> u128
     }
 }
 
-/// Whether the exponents of a monomial add up to more than the greatest degree.
-fn is_too_high(mono: &RawMono) -> bool
-    ensures { result ≡ nat_lt MAX_DEGREE (written_degree mono.now) }
+/// Whether the exponents of some factors add up to more than the greatest degree.
+fn are_too_many(factors: &[RawFactor]) -> bool
+    ensures { result ≡ nat_lt MAX_DEGREE (sum_by exponent_of factors.now) }
 {
     let mut left = DEGREE_LIMIT;
-    for factor in mono.factors.as_slice() {
+    for factor in factors {
         let exponent = exponent_of(factor);
         if exponent > left {
             return true;
@@ -48,7 +48,7 @@ fn is_too_high(mono: &RawMono) -> bool
 impl Scope<'_> {
     /// The first fault of the names of a factor.
     fn factor_names(&self, alloc: Global, factor: &RawFactor) -> Result<Option<Refusal>, NoMemory>
-        requires { All (IsNameAt self.now.text.now) (names_in_factor factor.now) }
+        requires { HasNames self.now.text.now factor.now }
         ensures { IfOk result
             (λ fault. fault ≡ first_of (factor_names self.now.declared.now self.now.text.now factor.now)) }
     {
@@ -56,22 +56,40 @@ impl Scope<'_> {
         Ok(self.atom_names(&names))
     }
 
-    /// The first fault of the names of a monomial.
-    pub(crate) fn mono_names(&self, alloc: Global, mono: &RawMono) -> Result<Option<Refusal>, NoMemory>
-        requires { IsWellMono self.now.text.now mono.now }
-        ensures { IfOk result
-            (λ fault. fault ≡ first_of (mono_names self.now.declared.now self.now.text.now mono.now)) }
+    /// The first fault of the names of several factors.
+    fn factors_names(
+        &self,
+        alloc: Global,
+        factors: &[RawFactor],
+    ) -> Result<Option<Refusal>, NoMemory>
+        requires { All (HasNames self.now.text.now) factors.now }
+        ensures { IfOk result (λ fault. fault
+            ≡ first_of (flat_map (factor_names self.now.declared.now self.now.text.now) factors.now)) }
     {
         let mut first = None;
-        for factor in mono.factors.as_slice() {
-            first = earlier(first, self.factor_names(alloc, factor)?);
+        for factor in factors {
+            let fault = self.factor_names(alloc, factor)?;
+            first = earlier(first, fault);
         }
         Ok(first)
     }
 
+    /// The first fault of the names of a monomial.
+    pub(crate) fn mono_names(
+        &self,
+        alloc: Global,
+        mono: &RawMono,
+    ) -> Result<Option<Refusal>, NoMemory>
+        requires { IsWellMono self.now.text.now mono.now }
+        ensures { IfOk result
+            (λ fault. fault ≡ first_of (mono_names self.now.declared.now self.now.text.now mono.now)) }
+    {
+        self.factors_names(alloc, mono.factors.as_slice())
+    }
+
     /// The whole atom of a factor.
     fn factor_atom(&self, alloc: Global, factor: &RawFactor) -> Result<Atom, NoMemory>
-        requires { All (IsNameAt self.now.text.now) (names_in_factor factor.now) }
+        requires { HasNames self.now.text.now factor.now }
         ensures { IfOk result
             (λ atom. atom ≡ factor_atom self.now.declared.now self.now.text.now factor.now) }
     {
@@ -86,7 +104,7 @@ impl Scope<'_> {
         atoms: &Option<Atoms>,
         factor: &RawFactor,
     ) -> Result<Option<Refusal>, NoMemory>
-        requires { All (IsNameAt self.now.text.now) (names_in_factor factor.now) }
+        requires { HasNames self.now.text.now factor.now }
         ensures { IfOk result (λ fault. fault ≡ first_of
             (factor_fault self.now.declared.now self.now.text.now (unwrap_or atoms.now []) factor.now)) }
     {
@@ -102,13 +120,14 @@ impl Scope<'_> {
         atoms: &Option<Atoms>,
         factors: &[RawFactor],
     ) -> Result<Option<Refusal>, NoMemory>
-        requires { All (λ f. All (IsNameAt self.now.text.now) (names_in_factor f)) factors.now }
+        requires { All (HasNames self.now.text.now) factors.now }
         ensures { IfOk result (λ fault. fault ≡ first_of (flat_map
             (factor_fault self.now.declared.now self.now.text.now (unwrap_or atoms.now [])) factors.now)) }
     {
         let mut first = None;
         for factor in factors {
-            first = earlier(first, self.factor_fault(alloc, atoms, factor)?);
+            let fault = self.factor_fault(alloc, atoms, factor)?;
+            first = earlier(first, fault);
         }
         Ok(first)
     }
@@ -125,8 +144,27 @@ impl Scope<'_> {
             (mono_faults self.now.declared.now self.now.text.now (unwrap_or atoms.now []) mono.now)) }
     {
         let factors = self.factors_fault(alloc, atoms, mono.factors.as_slice())?;
-        let degree = fault_where(is_too_high(mono), Code::Line, mono.start);
+        let degree = fault_where(are_too_many(mono.factors.as_slice()), Code::Line, mono.start);
         Ok(earlier(degree, factors))
+    }
+
+    /// The number of the atom of a factor, which is in the table.
+    fn factor_number(
+        &self,
+        alloc: Global,
+        atoms: &Option<Atoms>,
+        factor: &RawFactor,
+    ) -> Result<u32, NoMemory>
+        requires names { HasNames self.now.text.now factor.now }
+        requires there { factor_fault self.now.declared.now self.now.text.now (unwrap_or atoms.now []) factor.now ≡ [] }
+        ensures { IfOk result (λ number. number
+            ≡ number_of (unwrap_or atoms.now []) (factor_atom self.now.declared.now self.now.text.now factor.now)) }
+    {
+        let atom = self.factor_atom(alloc, factor)?;
+        match find(atoms, &atom) {
+            Some(number) => Ok(number),
+            None => unreachable!(),
+        }
     }
 
     /// The factors of a monomial, each as the number of its atom with its exponent.
@@ -134,20 +172,20 @@ impl Scope<'_> {
         &self,
         alloc: Global,
         atoms: &Option<Atoms>,
-        mono: &RawMono,
+        factors: &[RawFactor],
     ) -> Result<Vec<(u32, u32)>, NoMemory>
-        requires well_read { IsWellMono self.now.text.now mono.now }
-        requires low { written_degree mono.now ≤ MAX_DEGREE }
+        requires names { All (HasNames self.now.text.now) factors.now }
+        requires low { sum_by exponent_of factors.now ≤ MAX_DEGREE }
         requires there { flat_map (factor_fault self.now.declared.now self.now.text.now (unwrap_or atoms.now []))
-            (factors_of mono.now) ≡ [] }
+            factors.now ≡ [] }
         ensures { IfOk result (λ pairs. pairs.items
-            ≡ pairs_of self.now.declared.now self.now.text.now (unwrap_or atoms.now []) mono.now) }
+            ≡ map (factor_pair self.now.declared.now self.now.text.now (unwrap_or atoms.now [])) factors.now) }
     {
         let mut pairs = Vec::new(alloc);
-        for factor in mono.factors.as_slice() {
-            let atom = self.factor_atom(alloc, factor)?;
-            let number = find(atoms, &atom).unwrap();
-            pairs.push((number, exponent_of(factor) as u32))?;
+        for factor in factors {
+            let number = self.factor_number(alloc, atoms, factor)?;
+            let exponent = exponent_of(factor) as u32;
+            pairs.push((number, exponent))?;
         }
         Ok(pairs)
     }
@@ -165,7 +203,7 @@ impl Scope<'_> {
         ensures { IfOk result (λ m. m
             ≡ monomial_of self.now.declared.now self.now.text.now (unwrap_or atoms.now []) mono.now) }
     {
-        let pairs = self.pairs_of(alloc, atoms, mono)?;
+        let pairs = self.pairs_of(alloc, atoms, mono.factors.as_slice())?;
         match Mono::from_pairs(alloc, &pairs) {
             Ok(monomial) => Ok(monomial),
             Err(MonoEnd::NoMemory) => Err(AllocError),

@@ -11,7 +11,7 @@ ghost use Rattle.alg_typing.specs.Ends.{RefusesWith};
 ghost use Rattle.alg_typing.specs.Room.{HasRoom};
 ghost use Rattle.alg_annotated.specs.Parts.{IsAnswerPart, IsLineOrStep};
 ghost use Rattle.alg_annotated.specs.Places as places;
-ghost use Rattle.alg_annotated.specs.Progress.{answers_open, place_of, so_far, HasTable, IsSound};
+ghost use Rattle.alg_annotated.specs.Progress.{answers_open, place_of, opened, so_far, HasTable};
 ghost use Rattle.alg_annotated.specs.Reading.{nothing_yet, annotated_of};
 ghost use Rattle.alg_annotated.specs.Reading as texts;
 ghost use Rattle.alg_annotated.specs.Resolved.{with_part};
@@ -86,6 +86,16 @@ fn place_behind_part(place: Place, kind: &RawKind) -> Place
     }
 }
 
+/// What is just before the statement behind a declaration or a goal.
+fn opened(kind: &RawKind) -> Open
+    ensures { result ≡ opened kind.now }
+{
+    match kind {
+        RawKind::Goal { .. } => Open::Goal,
+        _ => Open::Nothing,
+    }
+}
+
 /// The answers with one more.
 fn with_answer(
     answers: Vec<Option<Answer>>,
@@ -117,10 +127,13 @@ impl Progress {
     /// Before the first statement.
     pub(crate) fn new(alloc: Global) -> Progress
         ensures nothing { so_far result ≡ nothing_yet }
-        ensures sound { IsSound result }
+        ensures table { HasTable result.declared result.last }
+        ensures valid { IsValid result.declared }
     {
+        let declared = Declared::new(alloc);
+        let _file = declared.file();
         Progress {
-            declared: Declared::new(alloc),
+            declared,
             answers: Vec::new(alloc),
             last: Open::Nothing,
         }
@@ -157,10 +170,11 @@ impl Progress {
         requires well_read { (at : ℕ) × IsWellRead text.now at raw }
         requires may_stand { MayStand (place_of self.last) raw.kind }
         requires room { ¬ (IsAnswerPart raw.kind) → HasRoom self.declared raw.kind }
-        requires sound { IsSound self }
+        requires count { length (so_far self).answers ≡ length self.declared.goals }
+        requires table { HasTable self.declared self.last }
         ensures ok { IfOk result (λ now. (texts.first_fault self.declared text.now raw ≡ None)
             × (so_far now ≡ texts.with_statement (so_far self) text.now raw.kind)) }
-        ensures sound { IfOk result IsSound }
+        ensures table { IfOk result (λ now. HasTable now.declared now.last) }
         ensures refused { IfErr result
             (λ end. RefusesWith end (λ fault. texts.first_fault self.declared text.now raw ≡ Some fault)) }
     {
@@ -185,19 +199,17 @@ impl Progress {
         requires well_read { (at : ℕ) × IsWellRead text.now at raw }
         requires declared { ¬ (IsAnswerPart raw.kind) }
         requires room { HasRoom self.declared raw.kind }
-        requires sound { IsSound self }
+        requires count { length (so_far self).answers ≡ length self.declared.goals }
+        requires table { HasTable self.declared self.last }
         ensures ok { IfOk result (λ now. (texts.first_fault self.declared text.now raw ≡ None)
             × (so_far now ≡ texts.with_statement (so_far self) text.now raw.kind)) }
-        ensures sound { IfOk result IsSound }
+        ensures table { IfOk result (λ now. HasTable now.declared now.last) }
         ensures refused { IfErr result
             (λ end. RefusesWith end (λ fault. texts.first_fault self.declared text.now raw ≡ Some fault)) }
     {
         let Progress { mut declared, answers, last } = self;
         let answers = closed(answers, last)?;
-        let last = match &raw.kind {
-            RawKind::Goal { .. } => Open::Goal,
-            _ => Open::Nothing,
-        };
+        let last = opened(&raw.kind);
         declared.add(alloc, text, raw)?;
         Ok(Progress { declared, answers, last })
     }
@@ -213,10 +225,11 @@ impl Progress {
         requires well_read { IsWellKind text.now raw.now.kind }
         requires may_stand { MayStand (place_of self.last) raw.now.kind }
         requires said { raw.now.kind ≡ raws.Answer said.now }
-        requires sound { IsSound self }
+        requires count { length (so_far self).answers ≡ length self.declared.goals }
+        requires table { HasTable self.declared self.last }
         ensures ok { IfOk result (λ now. (texts.first_fault self.declared text.now raw.now ≡ None)
             × (so_far now ≡ texts.with_statement (so_far self) text.now raw.now.kind)) }
-        ensures sound { IfOk result IsSound }
+        ensures table { IfOk result (λ now. HasTable now.declared now.last) }
         ensures refused { IfErr result
             (λ end. RefusesWith end (λ fault. texts.first_fault self.declared text.now raw.now ≡ Some fault)) }
     {
@@ -225,7 +238,7 @@ impl Progress {
             declared: &declared,
             text,
         };
-        let goal = &declared.file().goals.items()[scope.last_goal() as usize];
+        let goal = declared.goal_at(scope.last_goal());
         let atoms = goal_table(alloc, declared.file(), goal)?;
         if let Some(fault) = scope.first_fault(alloc, &atoms, raw)? {
             return Err(FileEnd::Refused(fault));
@@ -247,17 +260,22 @@ impl Progress {
         requires well_read { IsWellKind text.now raw.now.kind }
         requires may_stand { MayStand (place_of self.last) raw.now.kind }
         requires part { IsLineOrStep raw.now.kind }
-        requires sound { IsSound self }
+        requires count { length (so_far self).answers ≡ length self.declared.goals }
+        requires table { HasTable self.declared self.last }
         ensures ok { IfOk result (λ now. (texts.first_fault self.declared text.now raw.now ≡ None)
             × (so_far now ≡ texts.with_statement (so_far self) text.now raw.now.kind)) }
-        ensures sound { IfOk result IsSound }
+        ensures table { IfOk result (λ now. HasTable now.declared now.last) }
         ensures refused { IfErr result
             (λ end. RefusesWith end (λ fault. texts.first_fault self.declared text.now raw.now ≡ Some fault)) }
     {
         let Progress { declared, answers, last } = self;
         match last {
             Open::Answer(answered) => {
-                let answered = answered.with_part(alloc, Scope { declared: &declared, text }, raw)?;
+                let scope = Scope {
+                    declared: &declared,
+                    text,
+                };
+                let answered = answered.with_part(alloc, &scope, raw)?;
                 Ok(Progress {
                     declared,
                     answers,
@@ -271,19 +289,19 @@ impl Progress {
 
 impl Answered {
     /// With a line or a step.
-    fn with_part(self, alloc: Global, scope: Scope, raw: &Raw) -> Result<Answered, FileEnd>
-        requires well_read { IsWellKind scope.text.now raw.now.kind }
+    fn with_part(self, alloc: Global, scope: &Scope, raw: &Raw) -> Result<Answered, FileEnd>
+        requires well_read { IsWellKind scope.now.text.now raw.now.kind }
         requires part { IsLineOrStep raw.now.kind }
-        requires there { 0 < length scope.declared.now.goals }
-        requires table { unwrap_or self.atoms [] ≡ goal_atoms scope.declared.now (last_goal scope.declared.now) }
+        requires there { 0 < length scope.now.declared.now.goals }
+        requires table { unwrap_or self.atoms [] ≡ goal_atoms scope.now.declared.now (last_goal scope.now.declared.now) }
         ensures faultless { IfOk result
-            (λ next. texts.first_fault scope.declared.now scope.text.now raw.now ≡ None) }
-        ensures answer { IfOk result (λ next. Some next.answer ≡ with_part scope.declared.now scope.text.now
-            (goal_atoms scope.declared.now (last_goal scope.declared.now)) raw.now.kind (Some self.answer)) }
+            (λ next. texts.first_fault scope.now.declared.now scope.now.text.now raw.now ≡ None) }
+        ensures answer { IfOk result (λ next. Some next.answer ≡ with_part scope.now.declared.now scope.now.text.now
+            (goal_atoms scope.now.declared.now (last_goal scope.now.declared.now)) raw.now.kind (Some self.answer)) }
         ensures place { IfOk result (λ next. next.place ≡ places.place_behind self.place raw.now.kind) }
         ensures table { IfOk result (λ next. next.atoms ≡ self.atoms) }
         ensures refused { IfErr result (λ end. RefusesWith end
-            (λ fault. texts.first_fault scope.declared.now scope.text.now raw.now ≡ Some fault)) }
+            (λ fault. texts.first_fault scope.now.declared.now scope.now.text.now raw.now ≡ Some fault)) }
     {
         let Answered { atoms, place, answer } = self;
         if let Some(fault) = scope.first_fault(alloc, &atoms, raw)? {

@@ -125,7 +125,7 @@ impl Scope<'_> {
             (last_goal self.now.declared.now) start said.now)) }
     {
         let parts = self.parts_fault(alloc, atoms, said)?;
-        let goal = &self.declared.file().goals.items()[self.last_goal() as usize];
+        let goal = self.declared.goal_at(self.last_goal());
         let form = fault_where(!belongs(&goal.method, said), Code::Answer, start);
         Ok(earlier(form, parts))
     }

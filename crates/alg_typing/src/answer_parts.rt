@@ -1,6 +1,6 @@
 //! The faults of the terms and names of an answer, one group at a time, and the numbers of its names.
 
-ghost use Rattle.std.specs.Prelude.{◌≡◌, ◌<◌, length};
+ghost use Rattle.std.specs.Prelude.{◌≡◌, ◌<◌, flat_map, length, map, All, IfOk};
 ghost use Rattle.alg_terms.specs.Members.{goal_at};
 ghost use Rattle.alg_reader.specs.WellRead.{IsNameAt, IsWellTerm};
 ghost use Rattle.alg_typing.specs.AnswerTerms.{answer_sorts};
@@ -13,7 +13,9 @@ use crate::Declared;
 use crate::declaration::Wanted;
 use crate::scope::Scope;
 use alg_reader::{RawTerm, Span};
+use alg_terms::NoMemory;
 use alg_tokens::Refusal;
+use std::alloc::Global;
 
 impl Declared {
     /// The first fault of the names of a term, by the names that are declared so far.
@@ -55,16 +57,28 @@ impl Declared {
         scope.used_name(name, Wanted::Var)
     }
 
-    /// The fault of a name that is used as one of a morphism.
-    pub fn hom_fault(&self, text: &str, name: Span) -> Option<Refusal>
-        requires { IsNameAt text.now name }
-        ensures { result ≡ first_of (used_name self.now text.now is_hom name) }
+    /// The first fault of the names of a path of morphisms.
+    pub fn path_fault(&self, text: &str, path: &[Span]) -> Option<Refusal>
+        requires { All (IsNameAt text.now) path.now }
+        ensures { result ≡ first_of (flat_map (used_name self.now text.now is_hom) path.now) }
     {
         let scope = Scope {
             declared: self,
             text,
         };
-        scope.used_name(name, Wanted::Hom)
+        scope.path_names(path)
+    }
+
+    /// The numbers of the morphisms of a path.
+    pub fn path_of(&self, alloc: Global, text: &str, path: &[Span]) -> Result<Vec<u32>, NoMemory>
+        requires { All (IsNameAt text.now) path.now }
+        ensures { IfOk result (λ numbers. numbers.items ≡ map (number_at self.now text.now) path.now) }
+    {
+        let scope = Scope {
+            declared: self,
+            text,
+        };
+        scope.path_of(alloc, path)
     }
 
     /// The number of what a name is declared as.

@@ -66,7 +66,7 @@ impl Scope<'_> {
     }
 
     /// The first fault of the names of a path of morphisms.
-    fn path_names(&self, path: &[Span]) -> Option<Refusal>
+    pub(crate) fn path_names(&self, path: &[Span]) -> Option<Refusal>
         requires { All (IsNameAt self.now.text.now) path.now }
         ensures { result ≡ first_of (flat_map (used_name self.now.declared.now self.now.text.now is_hom) path.now) }
     {
