@@ -5,3 +5,6 @@ pub mod Sizes
 pub mod AnswersKept
 pub mod Clear
 pub mod Statements
+pub mod Progressing
+pub mod Ends
+pub mod TextSteps

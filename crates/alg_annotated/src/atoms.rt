@@ -27,12 +27,15 @@ fn add_names(names: &mut Vec<Span>, factor: &RawFactor) -> Result<(), NoMemory>
     ensures { OnOk result (names.new.items ≡ names.old.items ++ names_in_factor factor.now) }
 {
     names.push(factor.name)?;
-    if let Some(of) = &factor.of {
-        for inner in of.factors.as_slice() {
-            add_names(names, inner)?;
+    match &factor.of {
+        None => Ok(()),
+        Some(of) => {
+            for inner in of.factors.as_slice() {
+                add_names(names, inner)?;
+            }
+            Ok(())
         }
     }
-    Ok(())
 }
 
 /// The names of the whole atom of a factor.

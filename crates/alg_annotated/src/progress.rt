@@ -97,7 +97,7 @@ fn opened(kind: &RawKind) -> Open
 }
 
 /// The answers with one more.
-fn with_answer(
+fn with_one(
     answers: Vec<Option<Answer>>,
     answer: Option<Answer>,
 ) -> Result<Vec<Option<Answer>>, NoMemory>
@@ -114,11 +114,11 @@ fn closed(answers: Vec<Option<Answer>>, last: Open) -> Result<Vec<Option<Answer>
 {
     match last {
         Open::Nothing => Ok(answers),
-        Open::Goal => with_answer(answers, None),
+        Open::Goal => with_one(answers, None),
         Open::Answer(answered) => {
             let Answered { atoms, place: _, answer } = answered;
             drop(atoms);
-            with_answer(answers, Some(answer))
+            with_one(answers, Some(answer))
         }
     }
 }
@@ -165,6 +165,7 @@ impl Progress {
 
     /// With one more statement, or its first fault. Linear in the statement; the table of a goal is made
     /// at its answer.
+    #[tactic(none)]
     pub(crate) fn with_statement(self, alloc: Global, text: &str, raw: Raw) -> Result<Progress, FileEnd>
         requires size { length text.now ≤ MAX_TEXT }
         requires well_read { (at : ℕ) × IsWellRead text.now at raw }
@@ -194,6 +195,7 @@ impl Progress {
     }
 
     /// With a declaration or a goal.
+    #[tactic(none)]
     fn with_declaration(self, alloc: Global, text: &str, raw: Raw) -> Result<Progress, FileEnd>
         requires size { length text.now ≤ MAX_TEXT }
         requires well_read { (at : ℕ) × IsWellRead text.now at raw }
@@ -215,6 +217,7 @@ impl Progress {
     }
 
     /// With an answer to the last goal.
+    #[tactic(none)]
     fn with_answer(
         self,
         alloc: Global,
@@ -256,6 +259,7 @@ impl Progress {
     }
 
     /// With a line or a step of the certificate of the last answer.
+    #[tactic(none)]
     fn with_part(self, alloc: Global, text: &str, raw: &Raw) -> Result<Progress, FileEnd>
         requires well_read { IsWellKind text.now raw.now.kind }
         requires may_stand { MayStand (place_of self.last) raw.now.kind }
@@ -289,6 +293,7 @@ impl Progress {
 
 impl Answered {
     /// With a line or a step.
+    #[tactic(none)]
     fn with_part(self, alloc: Global, scope: &Scope, raw: &Raw) -> Result<Answered, FileEnd>
         requires well_read { IsWellKind scope.now.text.now raw.now.kind }
         requires part { IsLineOrStep raw.now.kind }

@@ -49,12 +49,15 @@ fn read_text(alloc: Global, text: &str) -> Result<Annotated, FileEnd>
     let mut now = Progress::new(alloc);
     let mut at = 0;
     'statements: loop {
-        let raw = read_statement(alloc, text, at, now.place())?;
+        let place = now.place();
+        let raw = read_statement(alloc, text, at, place)?;
         if let RawKind::End = raw.kind {
             drop(raw);
-            return Ok(now.finish()?);
+            let all = now.finish()?;
+            return Ok(all);
         }
         at = raw.stop;
-        now = now.with_statement(alloc, text, raw)?;
+        let next = now.with_statement(alloc, text, raw)?;
+        now = next;
     }
 }

@@ -162,6 +162,7 @@ impl Scope<'_> {
     }
 
     /// The first fault of an answer, a line or a step. Linear in the statement.
+    #[tactic(none)]
     pub(crate) fn first_fault(
         &self,
         alloc: Global,

@@ -13,6 +13,6 @@ loop-term-preserved c =
     let faults = answer_sorts file text (last_goal file) in
     c.earlier-first.ensures ∙ ap (λ o. earlier_of o c.term_sorts.result) c.loop-term.invariant
     ∙ ap (earlier_of _) (c.term_sorts.ensures
-    ∙ ap (λ n. first_of (answer_sorts file text (goal_at file n) _)) c.last_goal-goal.ensures
+    ∙ ap (λ n. first_of (answer_sorts file text (goal_at file n) c.term-item.result)) c.last_goal-goal.ensures
     ∙ ap (λ t. first_of (faults t)) c.term-item.is)
     ∙ sym (first_of-more faults c.args.terms.now c.loop-term.term-index _ c.loop-term-test.true)
