@@ -4,6 +4,7 @@ pub mod Lasts
 pub mod Sizes
 pub mod AnswersKept
 pub mod Clear
+pub mod ClearMonomials
 pub mod Statements
 pub mod Progressing
 pub mod Ends

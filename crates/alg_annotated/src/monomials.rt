@@ -47,6 +47,7 @@ fn are_too_many(factors: &[RawFactor]) -> bool
 
 impl Scope<'_> {
     /// The first fault of the names of a factor.
+    #[tactic(auto, using(crate::proofs::ClearMonomials::homs_named, crate::proofs::ClearMonomials::var_named))]
     fn factor_names(&self, alloc: Global, factor: &RawFactor) -> Result<Option<Refusal>, NoMemory>
         requires { HasNames self.now.text.now factor.now }
         ensures { IfOk result
@@ -75,6 +76,7 @@ impl Scope<'_> {
     }
 
     /// The first fault of the names of a monomial.
+    #[tactic(auto, using(crate::proofs::Factors::factors_named))]
     pub(crate) fn mono_names(
         &self,
         alloc: Global,
@@ -88,6 +90,7 @@ impl Scope<'_> {
     }
 
     /// The whole atom of a factor.
+    #[tactic(auto, using(crate::proofs::ClearMonomials::homs_named, crate::proofs::ClearMonomials::var_named))]
     fn factor_atom(&self, alloc: Global, factor: &RawFactor) -> Result<Atom, NoMemory>
         requires { HasNames self.now.text.now factor.now }
         ensures { IfOk result
@@ -133,6 +136,7 @@ impl Scope<'_> {
     }
 
     /// The first fault of a monomial, by the atoms of the goal's table.
+    #[tactic(auto, using(alg_typing::proofs::Firsts::firsts, crate::proofs::Factors::factors_named))]
     pub(crate) fn mono_fault(
         &self,
         alloc: Global,
@@ -149,6 +153,7 @@ impl Scope<'_> {
     }
 
     /// The number of the atom of a factor, which is in the table.
+    #[tactic(auto, using(crate::proofs::ClearMonomials::not_there))]
     fn factor_number(
         &self,
         alloc: Global,
@@ -168,6 +173,7 @@ impl Scope<'_> {
     }
 
     /// The factors of a monomial, each as the number of its atom with its exponent.
+    #[tactic(auto, using(crate::proofs::ClearMonomials::none_of_each, std::proofs::lemmas::List::Sums::sum_by_more_le))]
     fn pairs_of(
         &self,
         alloc: Global,
@@ -191,6 +197,7 @@ impl Scope<'_> {
     }
 
     /// A monomial without faults, over the numbers of the atoms of the goal's table.
+    #[tactic(auto, using(crate::proofs::Factors::factors_named, crate::proofs::ClearMonomials::factors_clear, crate::proofs::ClearMonomials::exponents_low, crate::proofs::ClearMonomials::pairs_degree))]
     pub(crate) fn monomial_of(
         &self,
         alloc: Global,

@@ -84,6 +84,7 @@ impl Scope<'_> {
     }
 
     /// The first fault of the parts of an answer to the last goal.
+    #[tactic(auto, using(alg_typing::proofs::Firsts::firsts_grouped))]
     fn parts_fault(
         &self,
         alloc: Global,
@@ -111,6 +112,7 @@ impl Scope<'_> {
     }
 
     /// The first fault of an answer to the last goal, once its names are resolved.
+    #[tactic(auto, using(alg_typing::proofs::Firsts::firsts_grouped))]
     fn answer_fault(
         &self,
         alloc: Global,
@@ -131,6 +133,7 @@ impl Scope<'_> {
     }
 
     /// The first fault of an answer, a line or a step that begins at a byte, once its names are resolved.
+    #[tactic(auto, using(alg_typing::proofs::Firsts::firsts_grouped))]
     fn resolved_fault(
         &self,
         alloc: Global,
