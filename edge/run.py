@@ -33,6 +33,9 @@ INPUTS = [
     ("another word", ["Prove"], PROVED, b"usage\n", 3),
     ("two words", ["prove", "prove"], PROVED, b"usage\n", 3),
     ("a word that is no text", [b"\xff"], PROVED, b"usage\n", 3),
+    ("a loaded file", ["load", "10"], b"", b"load 10: 7 proved, 3 not\n", 1),
+    ("the greatest loaded file", ["load", "10000"], b"", b"load 10000: 6667 proved, 3333 not\n", 1),
+    ("a greater one", ["load", "10001"], b"", b"usage\n", 3),
 ]
 
 # What a row shows, the words, how the shell redirects the streams, the bytes, the exit status.
@@ -40,6 +43,7 @@ STREAMS = [
     ("a closed input", "prove", "<&-", b"", 4),
     ("a folder as the input", "prove", "< /", b"", 4),
     ("the usage reads nothing", "", "<&-", b"usage\n", 3),
+    ("a loaded file reads nothing", "load 1", "<&-", b"load 1: 1 proved, 0 not\n", 0),
     ("an empty device", "prove", "< /dev/null", b"", 0),
     ("a full device", "prove", "> /dev/full", b"", 5),
     ("a full device for the usage", "", "> /dev/full", b"", 5),

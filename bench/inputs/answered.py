@@ -1,11 +1,10 @@
-"""Files with what has to be written and the exit status."""
+"""Words and files, with what has to be written and the exit status."""
 
+from inputs.answered_by_nsatz import R, V, X, files_by_nsatz
+from inputs.answered_checks import files_to_check
 from inputs.limits import MAX_BYTES
 from inputs.terms import MAX
 
-R = "ring R.\n"
-V = "var x y : R.\n"
-X = "var x : R.\n"
 F = "field F.\n"
 Y = "var x y : F.\n"
 HOM_F = "hom f : R -> R.\n"
@@ -21,8 +20,20 @@ def refused(text, code, at):
     return text.encode(), f"refused {code} at {at}\n".encode(), 2
 
 
-def files_with_answers():
-    """Files with what has to be written and the exit status."""
+def runs_with_answers():
+    """Words and files, with what has to be written and the exit status."""
+    for family in (files_by_ring, files_by_field, files_by_nsatz):
+        for file in family():
+            yield ["prove"], *file
+    for file in files_to_check():
+        yield ["check"], *file
+    for n, proved in ((0, 0), (1, 1), (10, 7), (10_000, 6_667)):
+        text = f"load {n}: {proved} proved, {n - proved} not\n"
+        yield ["load", str(n)], b"", text.encode(), int(proved < n)
+
+
+def files_by_ring():
+    """Goals by ring, and files that are refused."""
     great = f"x + {MAX}"
     less = f"x + {MAX - 1}"
     power = "(2*x)^{0} = (2*x)^{0}"
@@ -44,17 +55,25 @@ def files_with_answers():
     yield b" " * (MAX_BYTES + 1), b"refused large\n", 2
     yield answered(R + V + "goal x^1000*x = 0 by ring.\n", "degree", 1)
     yield answered(R + V + "goal x^1000 = x^1000 by ring.\n", "proved", 0)
-    yield refused(R + X + f"goal {'+'.join(['x'] * 1001)} = 0 by ring.\n", 11, 2023)
-    yield refused(R + X + "goal " + "(" * 201 + "\n", 19, 224)
     yield refused(R + X + f"goal x = {MAX + 1} by ring.\n", 3, 28)
     yield refused(F + "var x : F.\ngoal x/x = 1 by ring.\n", 13, 26)
     yield b"\xff", b"refused 1 at 0\n", 2
     yield answered(R + "var α : R.\ngoal α + α = 2*α by ring.\n", "proved", 0)
     many = f"var {' '.join(NAMES)} : R.\ngoal {unwrapped(NAMES)} = 0 by ring.\n"
     yield answered(R + many, "atoms", 1)
-    yield from files_by_field()
-    yield refused(R + X + "goal x = 0 by nsatz.\n", 20, 33)
-    yield refused(R + V + "hyp H : x = y.\n", 20, 21)
+    yield from files_at_nesting()
+
+
+def files_at_nesting():
+    """The deepest terms, and what is deeper."""
+    thousand = R + X + f"goal {' + '.join(['x'] * 1000)} = 0 by ring.\n"
+    data, written, status = answered(thousand, "no at x : 1000 and 0", 1)
+    yield data.replace(b" + ", b"+"), written, status
+    yield refused(R + X + f"goal {'+'.join(['x'] * 1001)} = 0 by ring.\n", 11, 2023)
+    yield refused(R + X + f"goal {'-' * 1200}x = 0 by ring.\n", 11, 224)
+    yield refused(R + X + "goal " + "(" * 201 + "\n", 19, 224)
+    data, written, status = answered(R + X + "goal x = x by ring.\n", "proved", 0)
+    yield data.replace(b"x =", b"(" * 200 + b"x" + b")" * 200 + b" ="), written, status
 
 
 def files_by_field():

@@ -1,5 +1,6 @@
 """Generated goals and statements, as lists of tokens."""
 
+from inputs.equations import goal_by_nsatz, hyp
 from inputs.scopes import Scope
 from inputs.terms import dense_sides, edge_term, long_image, long_sum, rewritten, spoilt, term
 
@@ -59,33 +60,50 @@ def method_and_sort(scope):
     rng = scope.rng
     sorts = [sort for _, sort in scope.variables]
     fields = [sort for sort in sorts if sort in scope.fields]
+    domains = [sort for sort in sorts if sort in scope.domains]
+    if rng.random() < (0.5 if domains else 0.05):
+        return "nsatz", rng.choice(domains if domains and rng.random() < 0.97 else sorts)
     if rng.random() < (0.6 if fields else 0.05):
         return "field", rng.choice(fields if fields and rng.random() < 0.95 else sorts)
     return "ring", rng.choice(sorts)
 
 
 def goal(scope):
+    """The statements of a goal: itself last, and hypotheses that were made for it."""
     rng = scope.rng
     if rng.random() < 0.08:
-        return ["goal", *loose_tokens(scope), "=", *loose_tokens(scope), "by", "ring", "."]
+        return [["goal", *loose_tokens(scope), "=", *loose_tokens(scope), "by", "ring", "."]]
     method, sort = method_and_sort(scope)
     scope.divides = method == "field"
-    left, right = sides(scope, sort)
+    hyps, options = [], []
+    if method == "nsatz":
+        hyps, (left, right), options = goal_by_nsatz(scope, sort)
+    else:
+        left, right = sides(scope, sort)
     if rng.random() < 0.1:
         left, right = right, left
-    for _ in range(rng.choice([0, 0, 0, 0, 1, 2])):
+    for _ in range(rng.choice([0, 0, 0, 0, 1, 2] if method != "nsatz" else [0] * 9 + [1])):
         left = spoilt(scope, left)
         right = spoilt(scope, right) if rng.random() < 0.5 else right
     extra = rng.choice([0, 0, 0.1])
     left, right = tokens_of(rng, left, 1, extra), tokens_of(rng, right, 1, extra)
-    return ["goal", *left, "=", *right, "by", method, "."]
+    made = ["goal", *left, "=", *right, "by", method, *options, "."]
+    return [*(hyp_tokens(rng, *parts) for parts in hyps), made]
+
+
+def hyp_tokens(rng, name, left, relation, right):
+    extra = rng.choice([0, 0, 0.1])
+    left, right = tokens_of(rng, left, 1, extra), tokens_of(rng, right, 1, extra)
+    return ["hyp", name, ":", *left, relation, *right, "."]
 
 
 def statements(rng):
     scope = Scope(rng)
     made = scope.declarations()
+    for _ in range(rng.choice([0, 1, 2, 3])):
+        made.append(hyp_tokens(rng, *hyp(scope)))
     for _ in range(rng.choice([0, 1, 1, 2, 3])):
-        made.append(goal(scope))
+        made += goal(scope)
         if rng.random() < 0.2:
             made.append(scope.var())
     return made

@@ -24,9 +24,11 @@ class Scope:
         self.rng = rng
         self.sorts = []
         self.fields = []
+        self.domains = []
         self.divides = False
         self.homs = []
         self.variables = []
+        self.hyps = []
         self.names = set(WORDS)
 
     def new_name(self):
@@ -45,6 +47,8 @@ class Scope:
         self.sorts.append(name)
         if kind == "field":
             self.fields.append(name)
+        if kind != "ring":
+            self.domains.append(name)
         has_char = kind != "ring" and self.rng.random() < 0.4
         char = ["char", self.rng.choice(["0", "00"])] if has_char else []
         return [kind, name, *char, "."]

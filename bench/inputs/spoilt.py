@@ -119,17 +119,20 @@ def spoil_operator(rng, tokens):
 
 
 def spoil_method(rng, tokens):
-    """Methods and statements that are answered later."""
+    """Another method, other options, or a hypothesis somewhere."""
     places = positions(tokens, lambda t: t == "by")
     what = rng.randrange(3)
     if places and what:
         k = rng.choice(places)
         tokens[k + 1 : k + 2] = [rng.choice(["field", "nsatz", "nsatz", "hyp", "by", "char"])]
         return
-    dots = positions(tokens, lambda t: t == ".") or [0]
-    hyp = ["hyp", "H", ":", "x", rng.choice(["=", "<>"]), "y", "."]
-    k = rng.choice(dots) + 1
-    tokens[k:k] = hyp[: rng.randint(1, len(hyp))]
+    ends = positions(tokens, lambda t: t == ".") or [0]
+    k = rng.choice(ends)
+    if what:
+        tokens[k:k] = rng.choice([["using", "H"], ["power", "17"], ["limit", "1000001"], ["power"]])
+        return
+    made = ["hyp", "H", ":", "x", rng.choice(["=", "<>"]), "y", "."]
+    tokens[k + 1 : k + 1] = made[: rng.randint(1, len(made))]
 
 
 def spoil_bytes(rng, data):
@@ -160,6 +163,11 @@ SPOILERS = [
     spoil_operator,
     spoil_method,
 ]
+
+
+def unspoilt(rng):
+    """One file without changes; it may be refused for what it says."""
+    return spaced(rng, [token for statement in statements(rng) for token in statement]).encode()
 
 
 def generated(rng):

@@ -1,25 +1,35 @@
-"""What a file declares: its names, the sorts of its terms, and the first fault in either."""
+"""What a file declares: its names, and the first fault in a statement that is read whole."""
 
 from typing import NamedTuple
 
 from second.faults import (
     AGAIN,
     DEPTH,
-    DIVISION,
-    EXPONENT,
     NO_SORT,
+    NOT_DOMAIN,
     NOT_FIELD,
+    OPTION,
     SORTS_DIFFER,
     UNKNOWN,
     UTF8,
     WRONG_USE,
     Refused,
+    refuse_first,
 )
-from second.statements import GoalStatement, HomStatement, SortStatement, StatementReader
-from second.terms import PARTS, fold
+from second.sorts import Sorts, differ
+from second.statements import (
+    GoalStatement,
+    HomStatement,
+    HypStatement,
+    SortStatement,
+    StatementReader,
+)
+from second.terms import fold
 
 MAX_DEPTH = 1_000
-MAX_EXPONENT = 1_000
+MAX_POWER = 16
+MAX_MOVES = 1_000_000
+DEFAULT_MOVES = 10_000
 
 
 class Sort(NamedTuple):
@@ -39,11 +49,29 @@ class Vars(NamedTuple):
     sort: str
 
 
+class Hyp(NamedTuple):
+    name: str
+    left: list
+    right: list
+    nonzero: bool
+    sort: str
+
+
+class Use(NamedTuple):
+    """A hypothesis under a path of morphisms, the outermost first."""
+
+    path: tuple
+    hyp: Hyp
+
+
 class Goal(NamedTuple):
     left: list
     right: list
     method: str
-    char0: bool
+    sort: Sort
+    uses: list = []
+    power: int = 1
+    limit: int = DEFAULT_MOVES
 
 
 class File:
@@ -52,18 +80,24 @@ class File:
     def __init__(self):
         self.declared = {}
         self.statements = []
-
-    def sort_of(self, name):
-        """The sort of a declared variable, or the target of a declared morphism."""
-        return self.declared[name].sort if self.is_a(name, Vars) else self.declared[name].target
+        self.sorts = Sorts(self.declared)
 
     def is_a(self, name, what):
         return isinstance(self.declared.get(name), what)
 
     def add(self, statement):
         if isinstance(statement, GoalStatement):
-            self.add_goal(statement)
+            self.statements.append(self.goal(statement))
             return
+        if isinstance(statement, HypStatement):
+            made, names = self.hyp(statement), [statement.name]
+        else:
+            made, names = self.declaration(statement)
+        self.statements.append(made)
+        self.declared.update((name.value, made) for name in names)
+
+    def declaration(self, statement):
+        """What is declared, with the tokens of its names."""
         if isinstance(statement, SortStatement):
             new, wanted = [statement.name], []
             made = Sort(statement.kind, statement.name.value, statement.char0)
@@ -73,9 +107,8 @@ class File:
         else:
             new, wanted = statement.names, [statement.sort]
             made = Vars([name.value for name in new], statement.sort.value)
-        refuse_first(self.faults_again(new) + self.faults_of_uses((name, Sort) for name in wanted))
-        self.statements.append(made)
-        self.declared.update((name.value, made) for name in new)
+        refuse_first(self.faults_again(new) + self.faults_of_names((n, Sort) for n in wanted))
+        return made, new
 
     def faults_again(self, names):
         seen = set()
@@ -86,89 +119,110 @@ class File:
             seen.add(name.value)
         return faults
 
-    def faults_of_uses(self, uses):
+    def faults_of_names(self, names):
+        """Names that are unknown, or declared as another thing than is wanted beside them."""
         faults = []
-        for name, what in uses:
+        for name, what in names:
             if name.value not in self.declared:
                 faults.append((name.at, UNKNOWN))
             elif not self.is_a(name.value, what):
                 faults.append((name.at, WRONG_USE))
         return faults
 
-    def add_goal(self, goal):
-        for side in (goal.left, goal.right):
-            fold(side, depth_step)
-        wanted = {"var": Vars, "hom": Hom}
-        nodes = goal.left + goal.right
-        refuse_first(self.faults_of_uses((n, wanted[n.op]) for n in nodes if n.op in wanted))
-        sort = self.sort_of_goal(goal)
-        char0 = self.declared[sort].char0
-        self.statements.append(Goal(goal.left, goal.right, goal.method.kind, char0))
-
-    def sort_of_goal(self, goal):
-        """The sort of a goal, which is refused at its first fault of sorts."""
+    def hyp(self, statement):
+        refuse_deep(statement.left, statement.right)
+        names = names_in(statement.left, statement.right)
+        refuse_first(self.faults_again([statement.name]) + self.faults_of_names(names))
         faults = []
-
-        def step(node, *parts):
-            return self.own_sort(node, parts, faults)
-
-        left, right = fold(goal.left, step), fold(goal.right, step)
-        if left is None and right is None:
-            faults.append((goal.relation, NO_SORT))
-        elif differ(left, right):
-            faults.append((goal.relation, SORTS_DIFFER))
-        sort = left if left is not None else right
-        for side in (goal.left, goal.right):
-            faults += self.faults_of_quotients(side, sort, goal.method.kind == "field")
-        if goal.method.kind == "field" and self.is_no_field(sort):
-            faults.append((goal.method.at, NOT_FIELD))
+        sort = self.sort_of_equation(statement, False, faults)
         refuse_first(faults)
+        name = statement.name.value
+        return Hyp(name, statement.left, statement.right, statement.nonzero, sort)
+
+    def goal(self, statement):
+        refuse_deep(statement.left, statement.right)
+        method = statement.method
+        names = names_in(statement.left, statement.right)
+        for use in method.uses:
+            names += names_in_path(use, Hyp)
+        refuse_first(self.faults_of_names(names))
+        faults = []
+        name = self.sort_of_equation(statement, method.kind == "field", faults)
+        faults += self.faults_of_method(method, name)
+        refuse_first(faults)
+        sides = statement.left, statement.right
+        return Goal(*sides, method.kind, self.declared[name], *self.options(method))
+
+    def options(self, method):
+        """The uses, the power and the limit."""
+        uses = [self.use(names) for names in method.uses]
+        power = method.power.value if method.power else 1
+        return uses, power, method.limit.value if method.limit else DEFAULT_MOVES
+
+    def use(self, names):
+        *path, hyp = (token.value for token in names)
+        return Use(tuple(path), self.declared[hyp])
+
+    def sort_of_equation(self, statement, may_divide, faults):
+        """The name of the sort of an equation, or None; its faults of sorts go to `faults`."""
+        left = self.sorts.own_sort(statement.left, faults)
+        right = self.sorts.own_sort(statement.right, faults)
+        if left is None and right is None:
+            faults.append((statement.relation, NO_SORT))
+        elif differ(left, right):
+            faults.append((statement.relation, SORTS_DIFFER))
+        sort = left if left is not None else right
+        for side in (statement.left, statement.right):
+            self.sorts.find_quotients(side, sort, may_divide, faults)
         return sort
 
-    def is_no_field(self, sort):
-        return sort is not None and self.declared[sort].kind != "field"
-
-    def faults_of_quotients(self, nodes, sort, may_divide):
-        """Quotients elsewhere than in fields, found from the head down."""
+    def faults_of_method(self, method, sort):
         faults = []
-        places = [(sort, True)]
-        for node in reversed(nodes):
-            final, in_fields = places.pop()
-            if node.op == "/" and (not may_divide or self.is_no_field(final) or not in_fields):
-                faults.append((node.at, DIVISION))
-            if node.op == "hom":
-                hom = self.declared[node.value]
-                places.append((hom.source, in_fields and not self.is_no_field(hom.target)))
-            else:
-                places.extend([(final, in_fields)] * PARTS[node.op])
+        kind = self.declared[sort].kind if sort is not None else None
+        if method.kind == "field" and kind in ("ring", "domain"):
+            faults.append((method.at, NOT_FIELD))
+        if method.kind == "nsatz" and kind == "ring":
+            faults.append((method.at, NOT_DOMAIN))
+        for names in method.uses:
+            faults += self.faults_of_use(names, sort)
+        if method.power and not 1 <= method.power.value <= MAX_POWER:
+            faults.append((method.power.at, OPTION))
+        if method.limit and method.limit.value > MAX_MOVES:
+            faults.append((method.limit.at, OPTION))
         return faults
 
-    def own_sort(self, node, parts, faults):
-        """The own sort of a node, or None; what is wrong at the node goes to `faults`."""
-        if node.op == "int":
-            return None
-        if node.op == "var":
-            return self.sort_of(node.value)
-        if node.op == "hom":
-            if differ(parts[0], self.declared[node.value].source):
-                faults.append((node.at, SORTS_DIFFER))
-            return self.sort_of(node.value)
-        if node.op == "^" and node.value.value > MAX_EXPONENT:
-            faults.append((node.value.at, EXPONENT))
-        if len(parts) == 2 and differ(*parts):
-            faults.append((node.at, SORTS_DIFFER))
-        return next((sort for sort in parts if sort is not None), None)
+    def faults_of_use(self, names, sort):
+        faults = []
+        hyp = self.declared[names[-1].value]
+        own = hyp.sort
+        for name in reversed(names[:-1]):
+            hom = self.declared[name.value]
+            if own != hom.source:
+                faults.append((name.at, SORTS_DIFFER))
+            own = hom.target
+        if differ(own, sort):
+            faults.append((names[0].at, SORTS_DIFFER))
+        if hyp.nonzero and len(names) > 1 and self.sorts.is_no_field(hyp.sort):
+            faults.append((names[0].at, NOT_FIELD))
+        return faults
 
 
-def differ(left, right):
-    return left is not None and right is not None and left != right
+WANTED = {"var": Vars, "hom": Hom}
 
 
-def refuse_first(faults):
-    """Refuses at the least byte, and there with the least code."""
-    if faults:
-        at, code = min(faults)
-        raise Refused(code, at)
+def names_in(*terms):
+    """The names in some terms, each with what it must be declared as."""
+    return [(node, WANTED[node.op]) for nodes in terms for node in nodes if node.op in WANTED]
+
+
+def names_in_path(names, innermost):
+    """Names of morphisms, and one within that is declared as another thing."""
+    return [(name, Hom) for name in names[:-1]] + [(names[-1], innermost)]
+
+
+def refuse_deep(*terms):
+    for nodes in terms:
+        fold(nodes, depth_step)
 
 
 def depth_step(node, *parts):
@@ -179,12 +233,17 @@ def depth_step(node, *parts):
     return depth
 
 
-def read_file(data):
-    """The file that the bytes are, or a refusal at their first fault."""
+def refuse_broken(data):
+    """Refuses bytes that are not UTF-8."""
     try:
         data.decode()
     except UnicodeDecodeError as fault:
         raise Refused(UTF8, fault.start) from None
+
+
+def read_file(data):
+    """The file that the bytes are, or a refusal at their first fault."""
+    refuse_broken(data)
     reader = StatementReader(data)
     file = File()
     while (statement := reader.read()) is not None:

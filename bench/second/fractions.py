@@ -7,7 +7,8 @@ shown as they are written.
 
 from typing import NamedTuple
 
-from second.polynomials import MAX_DEGREE, ONE, Arithmetic, Overrun, degree, negated, norm
+from second.monomials import ONE
+from second.polynomials import MAX_DEGREE, Arithmetic, Overrun, degree, negated, norm
 from second.tokens import MAX
 
 FINE, DEGREE, RANGE = 0, 1, 2

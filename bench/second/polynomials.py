@@ -1,13 +1,15 @@
 """Polynomials of terms, under the limits on norms and degrees.
 
-An atom is a path of morphisms, the outermost first, over a variable; a monomial is the set of its
-atoms with their exponents; a polynomial maps monomials to nonzero coefficients.
+An atom is a path of morphisms, the outermost first, over a variable; a polynomial maps monomials
+to nonzero coefficients.
 """
 
+from math import gcd, prod
+
+from second.monomials import ONE, degree_of, joined
 from second.tokens import MAX
 
 MAX_DEGREE = 1_000
-ONE = frozenset()
 EFFORT = 400_000
 
 
@@ -23,12 +25,8 @@ def norm(poly):
     return sum(map(abs, poly.values()))
 
 
-def mono_degree(mono):
-    return sum(exponent for _, exponent in mono)
-
-
 def degree(poly):
-    return max(map(mono_degree, poly), default=0)
+    return max(map(degree_of, poly), default=0)
 
 
 def keep_limits(norm_made, degree_made):
@@ -38,12 +36,9 @@ def keep_limits(norm_made, degree_made):
         raise Overrun("degree")
 
 
-def joined(left, right):
-    """The product of two monomials."""
-    exponents = dict(left)
-    for atom, exponent in right:
-        exponents[atom] = exponents.get(atom, 0) + exponent
-    return frozenset(exponents.items())
+def content(poly):
+    """The greatest common divisor of the coefficients, and 1 for zero."""
+    return gcd(*poly.values()) or 1
 
 
 def without_zeros(poly):
@@ -73,11 +68,31 @@ class Arithmetic:
             made[mono] = made.get(mono, 0) + c
         return without_zeros(made)
 
-    def product(self, left, right):
-        if not left or not right:
+    def difference(self, left, right):
+        return self.total(left, negated(right))
+
+    def product(self, *factors):
+        """The product of some factors, made as one."""
+        if not all(factors):
             return {}
-        keep_limits(norm(left) * norm(right), degree(left) + degree(right))
-        return self.multiplied(left, right)
+        keep_limits(prod(map(norm, factors)), sum(map(degree, factors)))
+        made = {ONE: 1}
+        for factor in factors:
+            made = self.multiplied(made, factor)
+        return made
+
+    def combination(self, a, m, p, b, n, q):
+        """a*m*p - b*n*q, made as one."""
+        parts = [(c, mono, poly) for c, mono, poly in ((a, m, p), (-b, n, q)) if c and poly]
+        bound = sum(abs(c) * norm(poly) for c, _, poly in parts)
+        keep_limits(bound, max((degree_of(mono) + degree(poly) for _, mono, poly in parts), default=0))
+        made = {}
+        for c, mono, poly in parts:
+            self.spend(len(poly))
+            for other, d in poly.items():
+                product = joined(mono, other)
+                made[product] = made.get(product, 0) + c * d
+        return without_zeros(made)
 
     def multiplied(self, left, right):
         self.spend(len(left) * len(right))
@@ -122,5 +137,4 @@ class Arithmetic:
             return self.power(*parts, node.value.value)
         if node.op == "*":
             return self.product(*parts)
-        left, right = parts
-        return self.total(left, right if node.op == "+" else negated(right))
+        return self.total(*parts) if node.op == "+" else self.difference(*parts)

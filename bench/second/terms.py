@@ -32,20 +32,20 @@ def fold(nodes, step):
 class TermReader:
     """Reads one sum: operators and parentheses wait until their right ends are known."""
 
-    def __init__(self, tokens, end):
+    def __init__(self, tokens, *ends):
         self.tokens = tokens
-        self.end = end
+        self.ends = ends
         self.nodes = []
         self.waiting = []
         self.open = 0
 
     def read(self):
-        """The nodes of the sum, and the byte of the token that ends it."""
+        """The nodes of the sum, and the token that ends it."""
         while True:
             self.read_operand()
             token = self.read_after_operand()
-            if token.kind == self.end:
-                return self.nodes, token.at
+            if token.kind in self.ends:
+                return self.nodes, token
 
     def read_operand(self):
         while True:
@@ -72,8 +72,8 @@ class TermReader:
         """Goes on to the next operator of two parts, or to the end."""
         exponents = ["^"]
         while True:
-            close = ")" if self.open else self.end
-            token = self.tokens.take("+", "-", "*", "/", close, *exponents)
+            closing = [")"] if self.open else self.ends
+            token = self.tokens.take("+", "-", "*", "/", *closing, *exponents)
             if token.kind == "^":
                 exponent = self.tokens.take(NUM)
                 self.nodes.append(Node("^", token.at, exponent))
@@ -83,7 +83,7 @@ class TermReader:
                 exponents = ["^"]
             else:
                 self.place_waiting(BINDS.get(token.kind, 0))
-                if token.kind != self.end:
+                if token.kind not in self.ends:
                     self.waiting.append(Node(token.kind, token.at))
                 return token
 

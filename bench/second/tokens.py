@@ -2,7 +2,7 @@
 
 from typing import Any, NamedTuple
 
-from second.faults import CHARACTER, NUMBER, Refused
+from second.faults import CHARACTER, END, NUMBER, SYNTAX, Refused
 
 MAX = 2**127 - 1
 
@@ -84,3 +84,35 @@ def cut(data, at):
         if data.startswith(sign, at):
             return Token(sign.decode(), at), at + len(sign)
     raise Refused(CHARACTER, at)
+
+
+class TokenReader:
+    """Takes tokens one after the other, with one token looked at ahead."""
+
+    def __init__(self, data):
+        self.data = data
+        self.at = 0
+        self.ahead = None
+
+    def peek(self):
+        if self.ahead is None:
+            self.ahead, self.at = cut(self.data, self.at)
+        return self.ahead
+
+    def take(self, *kinds):
+        token = self.peek()
+        if token.kind not in kinds:
+            raise Refused(END if token.kind == STOP else SYNTAX, token.at)
+        self.ahead = None
+        return token
+
+    def take_if(self, kind):
+        """Whether the next token is of this kind; it is taken then."""
+        return self.peek().kind == kind and self.take(kind) is not None
+
+    def take_value(self, value):
+        """A numeral of just this value."""
+        token = self.peek()
+        if token.kind == NUM and token.value != value:
+            raise Refused(SYNTAX, token.at)
+        return self.take(NUM)

@@ -1,5 +1,5 @@
 -- What a certificate comes to, from what following its lines and its steps comes to.
-use Rattle.std.specs.Prelude.{◌≡◌, ◌≢◌, ℕ, suc, ◌+◌, ◌<◌, List, [], ◌∷◌, ◌++◌, Result, Ok, Err, IfErr, length}
+use Rattle.std.specs.Prelude.{◌≡◌, ◌≢◌, ℕ, suc, ◌+◌, ◌<◌, List, [], ◌∷◌, ◌++◌, None, Result, Ok, Err, IfErr, length}
 use Rattle.std.proofs.Common.{get_or, take, drop, sym, subst, ◌∙◌, arith}
 use Rattle.std.proofs.Math.Seq.{split_at}
 use Rattle.std.proofs.lemmas.List.{length-take-le}
@@ -11,7 +11,7 @@ use Rattle.alg_lines.specs.declared.cert.Line.{Line}
 use Rattle.alg_lines.specs.declared.cert.GoalStep.{GoalStep}
 use Rattle.alg_lines.specs.declared.cert.Cert.{Cert}
 use Rattle.alg_lines.specs.Accepting.{IsGoodLine, IsGoodStep, AreLines, AreSteps, HasPower, Begins, Accepting, Bad, IsGood, too_great, too_high, bad_line, bad_step, not_zero, good}
-use Rattle.alg_check.specs.Checking.{Refuses, BreaksAtLine, BreaksAtStep, FollowsSteps}
+use Rattle.alg_check.specs.Checking.{Refuses, BreaksAtLine, BreaksAtStep, FollowsLines, FollowsSteps}
 use Rattle.alg_check.specs.declared.certificate.Followed.{Followed}
 
 -- the line at an index is no good one, and those before it are
@@ -53,6 +53,13 @@ module _ (hyps : List Polynomial) (g : Polynomial) (cert : Cert) where
   refused power (Err Overrun.Range) t = too_great power t
   refused power (Err Overrun.Degree) t = too_high power t
   refused power (Err Overrun.NoMemory) t = tt
+
+  -- the lines were all made, from the certificate's own lines
+  pub lines_whole : (lines : List Line) (made now : List Polynomial) → FollowsLines hyps lines made None →
+      lines ≡ cert.lines → now ≡ made → AreLines hyps cert.lines (hyps ++ now)
+  lines_whole lines made now followed whole same =
+      subst (AreLines hyps cert.lines) (λ j. hyps ++ sym same j)
+      (subst (λ (ls : List Line). AreLines hyps ls (hyps ++ made)) whole followed)
 
   module _ (begins : Begins hyps g cert) where
     pub bad_at_line : (k : ℕ) → BreaksAtLine hyps cert.lines k → Accepting hyps g cert (Bad k)

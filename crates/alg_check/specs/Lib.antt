@@ -1,2 +1,10 @@
 pub mod Checking
+pub mod Bounds
+pub mod Factors
+pub mod Preparing
+pub mod Answers
+pub mod Fields
+pub mod Reports
+pub mod Certificates
+pub mod Certified
 pub mod Laws

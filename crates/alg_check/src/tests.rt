@@ -12,8 +12,14 @@ fn multiple(alloc: Global, c: u64, n: u32) -> Result<Poly, Overrun> {
     Poly::constant(alloc, i128::from(c))?.times(alloc, &power)
 }
 
-// The lines (a*L_i - b*L_j)/d.
-fn lines(alloc: Global, rows: &[(i128, u32, i128, u32, i128)]) -> Result<Seq<Line>, NoMemory> {
+/// `(a, i, b, j, d)` for the line `(a*L_i - b*L_j)/d`.
+type LineRow = (i128, u32, i128, u32, i128);
+
+/// `(a, b, j, d)` for the step `(a*G - b*L_j)/d`.
+type StepRow = (i128, i128, u32, i128);
+
+// The lines of these rows.
+fn lines(alloc: Global, rows: &[LineRow]) -> Result<Seq<Line>, NoMemory> {
     let mut lines = Vec::new(alloc);
     for &(a, i, b, j, d) in rows {
         let (m, n) = (Mono::one(alloc), Mono::one(alloc));
@@ -30,8 +36,8 @@ fn lines(alloc: Global, rows: &[(i128, u32, i128, u32, i128)]) -> Result<Seq<Lin
     Ok(Seq::from_vec(lines))
 }
 
-// The steps (a*G - b*L_j)/d.
-fn steps(alloc: Global, rows: &[(i128, i128, u32, i128)]) -> Result<Seq<GoalStep>, NoMemory> {
+// The steps of these rows.
+fn steps(alloc: Global, rows: &[StepRow]) -> Result<Seq<GoalStep>, NoMemory> {
     let mut steps = Vec::new(alloc);
     for &(a, b, j, d) in rows {
         let n = Mono::one(alloc);
@@ -40,122 +46,172 @@ fn steps(alloc: Global, rows: &[(i128, i128, u32, i128)]) -> Result<Seq<GoalStep
     Ok(Seq::from_vec(steps))
 }
 
+/// A certificate, and what it comes to.
+struct Row {
+    shows: &'static str,
+    power: u32,
+    lines: &'static [LineRow],
+    steps: &'static [StepRow],
+    want: CertAnswer,
+}
+
+// x = (3*x - 2*x)/1, which is line 3, and x - x by it.
+const GOOD: &[LineRow] = &[(1, 2, 1, 1, 1)];
+
+const LAST: &[StepRow] = &[(1, 1, 3, 1)];
+
+const ROWS: &[Row] = &[
+    Row {
+        shows: "a line and a step",
+        power: 1,
+        lines: GOOD,
+        steps: LAST,
+        want: CertAnswer::Good,
+    },
+    Row {
+        shows: "no lines",
+        power: 1,
+        lines: &[],
+        steps: &[(2, 1, 1, 1)],
+        want: CertAnswer::Good,
+    },
+    Row {
+        shows: "a second power",
+        power: 2,
+        lines: &[],
+        steps: &[],
+        want: CertAnswer::Bad(1),
+    },
+    Row {
+        shows: "no power",
+        power: 0,
+        lines: GOOD,
+        steps: LAST,
+        want: CertAnswer::Bad(0),
+    },
+    Row {
+        shows: "too great a power",
+        power: 17,
+        lines: GOOD,
+        steps: LAST,
+        want: CertAnswer::Bad(0),
+    },
+    Row {
+        shows: "a line that cites itself",
+        power: 1,
+        lines: &[(1, 3, 1, 1, 1)],
+        steps: LAST,
+        want: CertAnswer::Bad(1),
+    },
+    Row {
+        shows: "a line that cites no line",
+        power: 1,
+        lines: &[(1, 2, 1, 0, 1)],
+        steps: LAST,
+        want: CertAnswer::Bad(1),
+    },
+    Row {
+        shows: "a line divided by 0",
+        power: 1,
+        lines: &[(1, 2, 1, 1, 0)],
+        steps: LAST,
+        want: CertAnswer::Bad(1),
+    },
+    Row {
+        shows: "a line divided by -1",
+        power: 1,
+        lines: &[(1, 2, 1, 1, -1)],
+        steps: LAST,
+        want: CertAnswer::Bad(1),
+    },
+    Row {
+        shows: "a division with a rest",
+        power: 1,
+        lines: &[(1, 2, 1, 1, 2)],
+        steps: LAST,
+        want: CertAnswer::Bad(1),
+    },
+    Row {
+        shows: "too great a norm",
+        power: 1,
+        lines: &[(i128::MAX, 2, 0, 1, 1)],
+        steps: LAST,
+        want: CertAnswer::Bad(1),
+    },
+    Row {
+        shows: "the least factor",
+        power: 1,
+        lines: &[(1, 2, i128::MIN, 1, 1)],
+        steps: LAST,
+        want: CertAnswer::Bad(1),
+    },
+    Row {
+        shows: "the least factor of 0",
+        power: 1,
+        lines: &[(3, 1, 2, 2, 1), (1, 2, i128::MIN, 3, 1)],
+        steps: &[(3, 1, 4, 1)],
+        want: CertAnswer::Good,
+    },
+    Row {
+        shows: "a step with the factor 0",
+        power: 1,
+        lines: GOOD,
+        steps: &[(0, 1, 3, 1)],
+        want: CertAnswer::Bad(2),
+    },
+    Row {
+        shows: "a step that cites no line",
+        power: 1,
+        lines: GOOD,
+        steps: &[(1, 1, 4, 1)],
+        want: CertAnswer::Bad(2),
+    },
+    Row {
+        shows: "a step divided by 0",
+        power: 1,
+        lines: GOOD,
+        steps: &[(1, 1, 3, 0)],
+        want: CertAnswer::Bad(2),
+    },
+    Row {
+        shows: "a last remainder",
+        power: 1,
+        lines: GOOD,
+        steps: &[(1, 0, 3, 1)],
+        want: CertAnswer::Bad(3),
+    },
+    Row {
+        shows: "no steps",
+        power: 1,
+        lines: GOOD,
+        steps: &[],
+        want: CertAnswer::Bad(2),
+    },
+];
+
 #[test]
 fn a_certificate_is_good_or_has_its_first_breach(rt: HostRuntime) -> Result<(), Fail> {
     let alloc = rt.alloc();
     let hyps: &[Poly] = &[multiple(alloc, 2, 1)?, multiple(alloc, 3, 1)?];
     let goal = multiple(alloc, 1, 1)?;
-    let (good, last) = (&[(1, 2, 1, 1, 1)][..], &[(1, 1, 3, 1)][..]);
-    for (shown, power, made, done, want) in [
-        ("a line and a step", 1, good, last, CertAnswer::Good),
-        (
-            "no lines",
-            1,
-            &[][..],
-            &[(2, 1, 1, 1)][..],
-            CertAnswer::Good,
-        ),
-        ("a second power", 2, &[][..], &[][..], CertAnswer::Bad(1)),
-        ("no power", 0, good, last, CertAnswer::Bad(0)),
-        ("too great a power", 17, good, last, CertAnswer::Bad(0)),
-        (
-            "a line that cites itself",
-            1,
-            &[(1, 3, 1, 1, 1)][..],
-            last,
-            CertAnswer::Bad(1),
-        ),
-        (
-            "a line that cites no line",
-            1,
-            &[(1, 2, 1, 0, 1)][..],
-            last,
-            CertAnswer::Bad(1),
-        ),
-        (
-            "a line divided by 0",
-            1,
-            &[(1, 2, 1, 1, 0)][..],
-            last,
-            CertAnswer::Bad(1),
-        ),
-        (
-            "a line divided by -1",
-            1,
-            &[(1, 2, 1, 1, -1)][..],
-            last,
-            CertAnswer::Bad(1),
-        ),
-        (
-            "a division with a rest",
-            1,
-            &[(1, 2, 1, 1, 2)][..],
-            last,
-            CertAnswer::Bad(1),
-        ),
-        (
-            "too great a norm",
-            1,
-            &[(i128::MAX, 2, 0, 1, 1)][..],
-            last,
-            CertAnswer::Bad(1),
-        ),
-        (
-            "the least factor",
-            1,
-            &[(1, 2, i128::MIN, 1, 1)][..],
-            last,
-            CertAnswer::Bad(1),
-        ),
-        (
-            "the least factor of 0",
-            1,
-            &[(3, 1, 2, 2, 1), (1, 2, i128::MIN, 3, 1)][..],
-            &[(3, 1, 4, 1)][..],
-            CertAnswer::Good,
-        ),
-        (
-            "a step with the factor 0",
-            1,
-            good,
-            &[(0, 1, 3, 1)][..],
-            CertAnswer::Bad(2),
-        ),
-        (
-            "a step that cites no line",
-            1,
-            good,
-            &[(1, 1, 4, 1)][..],
-            CertAnswer::Bad(2),
-        ),
-        (
-            "a step divided by 0",
-            1,
-            good,
-            &[(1, 1, 3, 0)][..],
-            CertAnswer::Bad(2),
-        ),
-        (
-            "a last remainder",
-            1,
-            good,
-            &[(1, 0, 3, 1)][..],
-            CertAnswer::Bad(3),
-        ),
-        ("no steps", 1, good, &[][..], CertAnswer::Bad(2)),
-    ] {
-        let lines = lines(alloc, made)?;
-        let steps = steps(alloc, done)?;
-        assert!(rt; made.len() < 9 && done.len() < 9);
+    for row in ROWS {
+        let lines = lines(alloc, row.lines)?;
+        let steps = steps(alloc, row.steps)?;
+        assert!(rt; row.lines.len() < 9 && row.steps.len() < 9);
         let cert = Cert {
-            power,
+            power: row.power,
             lines,
             steps,
         };
         assert!(rt; hyps.len() < 9);
         assert!(rt; cert.lines.items().len() < 9);
         assert!(rt; cert.steps.items().len() < 9);
-        assert_eq!(rt; check_cert(alloc, hyps, &goal, &cert), Ok(want), "{shown}");
+        assert_eq!(rt;
+            check_cert(alloc, hyps, &goal, &cert),
+            Ok(row.want),
+            "{}",
+            row.shows
+        );
     }
     Ok(())
 }

@@ -1,3 +1,6 @@
 pub mod Answered
 pub mod Commands
+pub mod NoneUpTo
+pub mod Numbers
+pub mod Places
 pub mod Writing

@@ -2,8 +2,8 @@
 use Rattle.std.proofs.Common.{◌≡◌, ◌⊎◌, inl, inr, ℕ, List, Option, None, Some, map, sym, ap, ◌∙◌, subst, arith}
 use Rattle.std.specs.Prelude.{IfSome, Ok, Err}
 use Rattle.alg_outside.specs.Bytes.{Appends, ConsumesAll}
+use Rattle.alg_load.specs.Loaded.{loaded}
 use Rattle.alg_universe.specs.declared.universe.Universe.{Ghosts}
-use Rattle.alg_reader.specs.Tokens.{unread_today}
 use Rattle.alg_typing.specs.Laws.{OneReading}
 use Rattle.alg_printer.specs.Text.{text_of}
 use Rattle.alg_prover.specs.Answers.{AreAnswers}
@@ -12,7 +12,7 @@ use Rattle.alg_cli.specs.declared.command.Command.{Command}
 use Rattle.alg_cli.specs.declared.command.Command.TheVariants as command
 use Rattle.alg_cli.specs.declared.status.Status.{Status}
 use Rattle.alg_cli.specs.declared.status.Status.TheVariants.{Done, NotAll, Refused, Usage, ReadFault, WriteFault, NoMemory}
-use Rattle.alg_cli.specs.Replies.{IsReplyTo, IsReplyWithin, IsRefused, IsAnswered, refusal_text, status_of}
+use Rattle.alg_cli.specs.Replies.{IsReplyTo, IsReplyWithin, IsRefused, IsAnswered, IsSummary, refusal_text, summary_text, status_of}
 use Rattle.alg_cli.specs.Runs.{SinkChange, IsFailure, WritesByStatus, WritesAll, WritesPrefix}
 
 -- all of a text was written with the planned status, or a prefix of it and the count of faults rose
@@ -49,18 +49,28 @@ refused_once : OneReading → (bytes text other : List ℕ) (status planned : St
     IsRefused bytes other planned → IsSame text other status planned
 refused_once law bytes text other status planned one two =
     let same : Err one.fault ≡ Err two.fault =
-    law unread_today bytes (Err one.fault) (Err two.fault) one.reads two.reads in
+    law bytes (Err one.fault) (Err two.fault) one.reads two.reads in
     let fault : one.fault ≡ two.fault = cc in
     record {
       same_text = one.writes ∙ ap refusal_text fault ∙ sym two.writes;
       same_status = one.ends ∙ sym two.ends;
     }
 
+summary_once : OneAnswer → (goals : ℕ) (text other : List ℕ) (status planned : Status) → IsSummary goals text status →
+    IsSummary goals other planned → IsSame text other status planned
+summary_once determined goals text other status planned one two =
+    let answers : one.answers ≡ two.answers =
+    determined (loaded goals) one.answers two.answers one.are_answers two.are_answers in
+    record {
+      same_text = one.writes ∙ ap (summary_text goals) answers ∙ sym two.writes;
+      same_status = one.ends ∙ ap status_of answers ∙ sym two.ends;
+    }
+
 module _ {E : Type 0} (u : Ghosts E) where
   answered_once : OneReading → OneAnswer → (bytes text other : List ℕ) (status planned : Status) →
       IsAnswered u bytes text status → IsAnswered u bytes other planned → IsSame text other status planned
   answered_once law determined bytes text other status planned one two =
-      let same : Ok one.file ≡ Ok two.file = law unread_today bytes (Ok one.file) (Ok two.file) one.reads two.reads in
+      let same : Ok one.file ≡ Ok two.file = law bytes (Ok one.file) (Ok two.file) one.reads two.reads in
       let file : one.file ≡ two.file = cc in
       let theirs : AreAnswers two.file one.reply.answers =
       subst (λ f. AreAnswers f one.reply.answers) file one.reply.are_answers in
@@ -75,7 +85,7 @@ module _ {E : Type 0} (u : Ghosts E) where
   never_both : OneReading → (bytes text other : List ℕ) (status planned : Status) → IsRefused bytes text status →
       IsAnswered u bytes other planned → ⊥
   never_both law bytes text other status planned one two =
-      let same = law unread_today bytes (Err one.fault) (Ok two.file) one.reads two.reads in cc
+      let same = law bytes (Err one.fault) (Ok two.file) one.reads two.reads in cc
 
   -- bytes within the limit have one reply
   within_once : OneReading → OneAnswer → (command : Command) (bytes text other : List ℕ) (status planned : Status) →
@@ -83,6 +93,8 @@ module _ {E : Type 0} (u : Ghosts E) where
       IsSame text other status planned
   within_once law determined command.Usage bytes text other status planned one two =
       record { same_text = one.writes ∙ sym two.writes; same_status = one.ends ∙ sym two.ends }
+  within_once law determined (command.Load goals) bytes text other status planned one two =
+      summary_once determined goals text other status planned one two
   within_once law determined command.Prove bytes text other status planned (inl one) (inl two) =
       refused_once law bytes text other status planned one two
   within_once law determined command.Prove bytes text other status planned (inl one) (inr two) =
@@ -117,13 +129,13 @@ module _ {E : Type 0} (u : Ghosts E) where
   always law determined command bytes text planned result c Rose never is (inr (failed, rose, prefix)) other status
       reply = absurd (never rose)
 
--- what holds of all bytes that were read holds of the bytes that were told
-pub of_told : (before after : Option (List ℕ)) (bytes : List ℕ) (P : List ℕ → Type 0) → ConsumesAll before after bytes →
-    P bytes → IfSome before P
-of_told None None bytes P all h = tt
-of_told None (Some rest) bytes P all h = absurd all
-of_told (Some told) None bytes P all h = absurd all
-of_told (Some told) (Some rest) bytes P all h = subst P (sym all.0) h
+-- all bytes that were read are the bytes that were told
+pub of_told : (before after : Option (List ℕ)) (bytes : List ℕ) → ConsumesAll before after bytes →
+    IfSome before (λ told. told ≡ bytes)
+of_told None None bytes all = tt
+of_told None (Some rest) bytes all = absurd all
+of_told (Some told) None bytes all = absurd all
+of_told (Some told) (Some rest) bytes all = all.0
 
 -- what holds of each told value of a kind
 pub if_told : (before : Option (List ℕ)) (P Q : List ℕ → Type 0) → ((bytes : List ℕ) → P bytes → Q bytes) →

@@ -32,6 +32,8 @@ abbrev pub IsStatusOf : Command → Status → Type 0
 IsStatusOf command.Prove Done = Unit {0}
 IsStatusOf command.Prove NotAll = Unit {0}
 IsStatusOf command.Prove Refused = Unit {0}
+IsStatusOf (command.Load goals) Done = Unit {0}
+IsStatusOf (command.Load goals) NotAll = Unit {0}
 IsStatusOf command.Usage Usage = Unit {0}
 IsStatusOf _ _ = ⊥
 

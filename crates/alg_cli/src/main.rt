@@ -6,6 +6,7 @@
 
 pub mod command;
 pub mod laws;
+mod load;
 pub mod status;
 #[cfg(test)]
 mod tests;

@@ -1,7 +1,12 @@
 //! Runs of the top call, each over memory.
 
 mod by_field;
+mod by_nsatz;
+mod failing_ends;
+mod loads;
+mod nsatz_limits;
 mod rows;
+mod whole_files;
 
 use crate::laws::reads_back;
 use crate::status::Status;
@@ -12,7 +17,16 @@ use rows::{ANSWERED, ROWS};
 use std::alloc::Global;
 use std::test::Fail;
 
-/// The only word that the program knows.
+/// Words, each a text.
+fn words_of(alloc: Global, texts: &[&str]) -> Result<Vec<String>, Fail> {
+    let mut words = Vec::new(alloc);
+    for text in texts {
+        words.push(String::from_str(alloc, text)?)?;
+    }
+    Ok(words)
+}
+
+/// The word that asks for answers.
 fn prove(alloc: Global) -> Result<Vec<String>, Fail> {
     Ok(vec![in alloc; String::from_str(alloc, "prove")?]?)
 }
@@ -35,7 +49,12 @@ fn prove_run(alloc: Global, input: Vec<u8>) -> Result<(Vec<u8>, Status), Fail> {
 
 #[test]
 fn each_goal_is_written_back_with_its_answer(rt: HostRuntime) -> Result<(), Fail> {
-    for rows in [ANSWERED.as_slice(), by_field::ANSWERED.as_slice()] {
+    for rows in [
+        ANSWERED.as_slice(),
+        by_field::ANSWERED.as_slice(),
+        by_nsatz::ANSWERED.as_slice(),
+        nsatz_limits::ANSWERED.as_slice(),
+    ] {
         for row in rows {
             let input = joined(rt.alloc(), row.file, "")?;
             let (output, status) = prove_run(rt.alloc(), input)?;
@@ -50,7 +69,11 @@ fn each_goal_is_written_back_with_its_answer(rt: HostRuntime) -> Result<(), Fail
 
 #[test]
 fn files_and_faults_are_told(rt: HostRuntime) -> Result<(), Fail> {
-    for rows in [ROWS.as_slice(), by_field::ROWS.as_slice()] {
+    for rows in [
+        ROWS.as_slice(),
+        by_field::ROWS.as_slice(),
+        by_nsatz::ROWS.as_slice(),
+    ] {
         for row in rows {
             let (output, status) = prove_run(rt.alloc(), row.input.to_vec(rt.alloc())?)?;
             let shows = row.shows;
@@ -162,32 +185,6 @@ fn quotients_may_be_190_deep(rt: HostRuntime) -> Result<(), Fail> {
 }
 
 #[test]
-fn a_failed_write_leaves_a_front_of_the_text(rt: HostRuntime) -> Result<(), Fail> {
-    let words = prove(rt.alloc())?;
-    let input = joined(rt.alloc(), ANSWERED[1].file, "")?;
-    let mut source = MemSource::new(input, 1000, Vec::new(rt.alloc()));
-    let fails = vec![in rt.alloc(); 2u64]?;
-    let mut sink = MemSink::new(rt.alloc(), 1000, 16, fails)?;
-    let status = run::<Rats, _, _>(rt.alloc(), words.as_slice(), &mut source, &mut sink);
-    assert_eq!(rt; status, Status::WriteFault);
-    assert_eq!(rt; sink.bytes(), b"ring R.\nvar x y ".as_slice());
-    Ok(())
-}
-
-#[test]
-fn after_a_failed_read_nothing_is_written(rt: HostRuntime) -> Result<(), Fail> {
-    let words = prove(rt.alloc())?;
-    let input = joined(rt.alloc(), ANSWERED[1].file, "")?;
-    let fails = vec![in rt.alloc(); 3u64]?;
-    let mut source = MemSource::new(input, 16, fails);
-    let mut sink = MemSink::new(rt.alloc(), 1000, 1000, Vec::new(rt.alloc()))?;
-    let status = run::<Rats, _, _>(rt.alloc(), words.as_slice(), &mut source, &mut sink);
-    assert_eq!(rt; status, Status::ReadFault);
-    assert_eq!(rt; sink.bytes(), b"".as_slice());
-    Ok(())
-}
-
-#[test]
 fn an_input_has_at_most_a_mebibyte(rt: HostRuntime) -> Result<(), Fail> {
     for (count, wanted, ending) in [
         (1_048_576, "", Status::Done),
@@ -204,10 +201,7 @@ fn an_input_has_at_most_a_mebibyte(rt: HostRuntime) -> Result<(), Fail> {
 #[test]
 fn for_other_words_the_usage_is_written_and_nothing_read(rt: HostRuntime) -> Result<(), Fail> {
     for row in [[].as_slice(), &["Prove"], &["prove", "prove"]] {
-        let mut words = Vec::new(rt.alloc());
-        for word in row {
-            words.push(String::from_str(rt.alloc(), word)?)?;
-        }
+        let words = words_of(rt.alloc(), row)?;
         let fails = vec![in rt.alloc(); 1u64]?;
         let mut source = MemSource::new(Vec::new(rt.alloc()), 1, fails);
         let mut sink = MemSink::new(rt.alloc(), 1000, 1000, Vec::new(rt.alloc()))?;

@@ -1,16 +1,17 @@
 //! The top call: words, an input and an output.
 
-ghost use Rattle.std.specs.Prelude.{◌≡◌, ◌≢◌, ◌⊎◌, ◌≤◌, ◌++◌, List, ℕ, All, IfOk, OnOk, IfSome, length, map, Some, decimal};
+ghost use Rattle.std.specs.Prelude.{◌≡◌, ◌≢◌, ◌⊎◌, ◌≤◌, ◌++◌, ◌<◌, List, ℕ, All, Err, IfOk, OnOk, IfSome, length, map, Some, decimal};
 ghost use Rattle.alg_outside.specs.Bytes.{IsReadToEnd};
 ghost use Rattle.alg_outside.specs.Faults.{Rose};
+ghost use Rattle.alg_outside.specs.declared.whole.ReadEnd.TheVariants.{Fault, TooLarge};
 ghost use Rattle.alg_terms.specs.Valid.{IsValid};
-ghost use Rattle.alg_terms.specs.GoalRules.{IsRingOrField};
-ghost use Rattle.alg_cli.specs.Commands.{command_of, most_bytes, ReadsInput};
+ghost use Rattle.alg_cli.specs.Commands.{command_of, AsksForFew, ReadsInput, bytes_for, most_bytes};
 ghost use Rattle.alg_cli.specs.Runs.{IsReply, IsFailure, IsStatusOf, WritesByStatus, WritesAll, WritesPrefix, RepliesUnlessNoMemory, change};
 ghost use Rattle.alg_cli.specs.Replies.{IsReplyTo, IsFileReply};
 ghost use Rattle.alg_cli.specs.Replies as spec;
 
 use crate::command::Command;
+use crate::load::loaded;
 use crate::status::Status;
 use alg_lines::Answer;
 use alg_outside::{ReadEnd, Sink, Source, read_whole, write_whole};
@@ -26,13 +27,14 @@ use std::alloc::{AllocError, Global};
 
 /// What is to be written, and how the run ends once it is.
 #[derive(Drop)]
-struct Reply {
-    text: Vec<u8>,
-    status: Status,
+pub(crate) struct Reply {
+    pub(crate) text: Vec<u8>,
+    pub(crate) status: Status,
 }
 
 /// Does what the words ask for: with the word `prove` it reads the whole input, at most 1,048,576
-/// bytes, and writes the file back with its answers, or its first fault; with other words it writes
+/// bytes, and writes the file back with its answers, or its first fault; with `load` and a number it
+/// reads nothing and writes how many goals of the loaded file are proved; with other words it writes
 /// the usage. All memory is taken before the first byte is written. `U` has no call that runs, so
 /// the same program serves every family of structures.
 pub fn run<U: Universe, S: Source, K: Sink>(
@@ -41,8 +43,8 @@ pub fn run<U: Universe, S: Source, K: Sink>(
     source: &mut S,
     sink: &mut K,
 ) -> Status
-    // What was written is the reply to the input, or the usage: the file's text with its answers,
-    // each of which is right in every universe that fits, or the first fault.
+    // What was written is the reply to the input: the file's text with its answers, each of which is
+    // right in every universe that fits, or the first fault; or the summary; or the usage.
     ensures written { WritesByStatus (IsReply U.Universe (command_of words.now) (S.left source.old)) result
         (change K.Sink sink.old sink.new) }
     // Unless a count of faults rose or memory ran out, the reply was written.
@@ -73,7 +75,7 @@ pub fn run<U: Universe, S: Source, K: Sink>(
     if command == Command::Usage {
         return write_reply(sink, b"usage\n", Status::Usage);
     }
-    let bytes = match read_whole(alloc, source, command.most_bytes()) {
+    let bytes = match input_for(alloc, command, source) {
         Ok(bytes) => bytes,
         Err(ReadEnd::Fault) => return Status::ReadFault,
         Err(ReadEnd::NoMemory) => return Status::NoMemory,
@@ -82,6 +84,23 @@ pub fn run<U: Universe, S: Source, K: Sink>(
     match reply_to::<U>(alloc, command, bytes.as_slice()) {
         Ok(Reply { text, status }) => write_reply(sink, text.as_slice(), status),
         Err(_) => Status::NoMemory,
+    }
+}
+
+/// The bytes that a command works on: the whole input, or none where it reads nothing.
+fn input_for<S: Source>(alloc: Global, command: Command, source: &mut S) -> Result<Vec<u8>, ReadEnd>
+    ensures told { IfOk result (λ bytes. IfSome (bytes_for command (S.left source.old)) (λ told. told ≡ bytes.items)) }
+    ensures few { IfOk result (λ bytes. length bytes.items ≤ most_bytes command) }
+    ensures end { ReadsInput command → OnOk result (IsReadToEnd (S.left source.old) (S.left source.new)) }
+    ensures nothing { ¬ ReadsInput command → source.new ≡ source.old }
+    ensures fault { result ≡ Err Fault → ReadsInput command × Rose (S.faults source.old) (S.faults source.new) }
+    ensures large { result ≡ Err TooLarge → ReadsInput command
+        × IfSome (S.left source.old) (λ all. most_bytes command < length all) }
+{
+    if command.reads_input() {
+        read_whole(alloc, source, command.most_bytes())
+    } else {
+        Ok(Vec::new(alloc))
     }
 }
 
@@ -99,15 +118,17 @@ fn write_reply<K: Sink>(sink: &mut K, text: &[u8], status: Status) -> Status
     }
 }
 
-/// The reply of a command that reads to an input within its limit.
+/// The reply of a command to the bytes that it works on, which are within its limit.
 fn reply_to<U: Universe>(alloc: Global, command: Command, bytes: &[u8]) -> Result<Reply, AllocError>
     requires few { length bytes.now ≤ most_bytes command }
-    requires reads { ReadsInput command }
+    requires goals { AsksForFew command }
+    requires other { command ≢ Command.Usage }
     ensures reply { IfOk result (λ reply. IsReplyTo U.Universe command bytes.now reply.text.items reply.status) }
     ensures status { IfOk result (λ reply. IsStatusOf command reply.status) }
 {
     match command {
         Command::Prove => proved::<U>(alloc, bytes),
+        Command::Load(goals) => loaded(alloc, goals),
         Command::Usage => unreachable!(),
     }
 }
@@ -120,6 +141,7 @@ fn proved<U: Universe>(alloc: Global, bytes: &[u8]) -> Result<Reply, AllocError>
 {
     alg_prover::laws::proved_is_right::<U>();
     alg_prover::laws::no_differs();
+    alg_criterion::laws::none_exists();
     match read_file(alloc, bytes) {
         Ok(file) => answered(alloc, &file),
         Err(FileEnd::NoMemory) => Err(AllocError),
@@ -132,8 +154,7 @@ fn proved<U: Universe>(alloc: Global, bytes: &[u8]) -> Result<Reply, AllocError>
 
 /// The file with the answers to its goals.
 fn answered(alloc: Global, file: &File) -> Result<Reply, AllocError>
-    requires valid { IsValid file.now }
-    requires methods { All (λ goal. IsRingOrField goal.method) file.now.goals }
+    requires { IsValid file.now }
     ensures reply { IfOk result (λ reply. IsFileReply file.now reply.text.items reply.status) }
     ensures status { IfOk result (λ reply. IsStatusOf Command.Prove reply.status) }
 {
@@ -147,7 +168,7 @@ fn answered(alloc: Global, file: &File) -> Result<Reply, AllocError>
 }
 
 /// Done where each answer is a proof.
-fn status_of(answers: &[Answer]) -> Status
+pub(crate) fn status_of(answers: &[Answer]) -> Status
     ensures { result ≡ spec.status_of answers.now }
 {
     for answer in answers {
@@ -159,7 +180,7 @@ fn status_of(answers: &[Answer]) -> Status
 }
 
 /// Whether an answer says that its goal is proved.
-fn is_proof(answer: &Answer) -> bool
+pub(crate) fn is_proof(answer: &Answer) -> bool
     ensures { result ≡ spec.is_proof answer.now }
 {
     matches!(answer, Answer::Proved { .. } | Answer::Certified { .. })
@@ -181,15 +202,15 @@ fn refusal_text(alloc: Global, fault: Refusal) -> Result<Vec<u8>, AllocError>
     ensures { IfOk result (λ text. text.items ≡ spec.refusal_text fault) }
 {
     let mut text = Vec::from_slice(alloc, b"refused ")?;
-    put_number(&mut text, u32::from(fault.code))?;
+    put_number(&mut text, u64::from(fault.code))?;
     text.extend_from_slice(b" at ")?;
-    put_number(&mut text, fault.at)?;
+    put_number(&mut text, u64::from(fault.at))?;
     text.push(b'\n')?;
     Ok(text)
 }
 
 /// A number in decimal, at the end of a text.
-fn put_number(text: &mut Vec<u8>, number: u32) -> Result<(), AllocError>
+pub(crate) fn put_number(text: &mut Vec<u8>, number: u64) -> Result<(), AllocError>
     ensures { OnOk result (text.new.items ≡ text.old.items ++ decimal number) }
 {
     let mut buffer = Buffer::new();

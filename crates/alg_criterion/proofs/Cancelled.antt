@@ -1,28 +1,29 @@
 -- What the machine's moves make is as the laws need it.
 use Rattle.alg_criterion.proofs.Lists.{led_of}
-use Rattle.std.specs.Prelude.{false, ◌≡◌, ◌≢◌, ℕ, true, not, [], ◌∷◌, ◌++◌, ℤ, pos, ◌*ℤ◌, ◌+ℤ◌}
+use Rattle.std.specs.Prelude.{false, ◌≡◌, ◌≢◌, ℕ, true, not, [], ◌∷◌, ℤ, pos, ◌*ℤ◌, ◌+ℤ◌}
 use Rattle.std.proofs.Common.{refl, sym, ap, subst, ◌∙◌, T, arith}
 use lib.IntN.{neg_ℤ}
 use Rattle.std.specs.Int.RustNames.{unsigned_abs}
 use Rattle.std.specs.Ordering.{nat_cmp}
 use Rattle.std.specs.Cmp.{nat_cmp_total}
 use Rattle.std.specs.FinMap.{nat_cmp-IsAntisymmetric}
-use Rattle.alg_mono.specs.FiniteMaps.{IsCanonical, Each, all_some, products}
+use Rattle.alg_mono.specs.FiniteMaps.{IsCanonical, Each, all_some}
 use Rattle.alg_mono.specs.Numbers.{exponents, integers, is_zero}
 use Rattle.alg_mono.specs.Mono.{Monomial}
 use Rattle.alg_mono.specs.Monomials.{lcm}
-use Rattle.alg_mono.specs.NumberedPolynomials.{Polynomial, before, term_of, multiple_of}
-use Rattle.alg_mono.specs.Polynomials.{poly_neg}
+use Rattle.alg_mono.specs.NumberedPolynomials.{Polynomial}
 use Rattle.alg_mono.proofs.Canonical.{first}
-use Rattle.alg_mono.proofs.Each.{Each-append, Each-collect, Each-keep, Each-neg, Each-products, Each-weaker}
+use Rattle.alg_mono.proofs.Each.{Each-weaker}
 use Rattle.alg_mono.proofs.Lcm.{times_over, exponent-lcm}
-use Rattle.alg_groebner.specs.Cancelling.{left_factor, right_factor, crossed, cancelled, reduced, quotient, left_lift, right_lift, s_polynomial}
-use Rattle.alg_groebner.specs.Divisors.{content, over_number}
+use Rattle.alg_groebner.specs.Cancelling.{crossed, cancelled, reduced, quotient, left_lift, right_lift, s_polynomial}
+use Rattle.alg_groebner.specs.Divisors.{content}
 use Rattle.alg_groebner.specs.Leads.{leading, reduces}
 use Rattle.alg_groebner.proofs.Divisors.{content_divides}
 use Rattle.alg_groebner.proofs.Exact.{exactly}
 use Rattle.alg_groebner.proofs.Faithful.{IsPolynomial-crossed, IsPolynomial-cancelled}
 use Rattle.alg_groebner.proofs.Leading.{reduces_says}
+use Rattle.alg_groebner.proofs.Coefficients.{left_some}
+use Rattle.alg_groebner.proofs.Over.{each_cancelled}
 use Rattle.alg_criterion.proofs.Spans.{Led, whole, IsLine}
 use Rattle.alg_criterion.proofs.Machine.{scale, IsPoly, IsReduct, IsSPolynomial}
 use Rattle.alg_criterion.proofs.Numbered.{IsWithin, mono_times, mono_over, falling}
@@ -30,36 +31,15 @@ use Rattle.alg_criterion.proofs.Quotients.{times_comm, within_times, within_over
 use Rattle.alg_criterion.proofs.Rows.{at-append}
 use Rattle.alg_criterion.proofs.Lifts.{at-scale}
 use Rattle.alg_criterion.proofs.Values.{val, times_row, at-unit, at-times, at-combination}
-use Rattle.alg_criterion.proofs.Factors.{left_some, factors_balance}
+use Rattle.alg_criterion.proofs.Factors.{factors_balance}
 
 module _ (b : ℕ) where
-  within_multiple : (c : ℤ) (m : Monomial) (p : Polynomial) → IsWithin b m → Each (IsWithin b) p →
-      Each (IsWithin b) (multiple_of c m p)
-  within_multiple c m p h g =
-      Each-collect before integers.amounts (IsWithin b) (products mono_times ◌*ℤ◌ (term_of m c) p)
-      (Each-products mono_times ◌*ℤ◌ (IsWithin b) (IsWithin b) (IsWithin b) (within_times b) (term_of m c) p
-      (Each-keep before integers.amounts (IsWithin b) m c [] h tt) g)
-
-  within_number : (d : ℤ) (p : Polynomial) → Each (IsWithin b) p → Each (IsWithin b) (over_number d p)
-  within_number d [] h = tt
-  within_number d (e ∷ p) h = (h.0, within_number d p h.1)
-
-  within_crossed : (m : Monomial) (p : Polynomial) (n : Monomial) (q : Polynomial) → IsWithin b m → IsWithin b n →
-      Each (IsWithin b) p → Each (IsWithin b) q → Each (IsWithin b) (crossed m p n q)
-  within_crossed m p n q hm hn hp hq =
-      let x = multiple_of (left_factor (leading p) (leading q)) m p in
-      let y = multiple_of (right_factor (leading p) (leading q)) n q in
-      Each-collect before integers.amounts (IsWithin b) (x ++ poly_neg y)
-      (Each-append (IsWithin b) x (poly_neg y) (within_multiple (left_factor (leading p) (leading q)) m p hm hp)
-      (Each-neg (IsWithin b) y (within_multiple (right_factor (leading p) (leading q)) n q hn hq)))
-
   poly_cancelled : (m : Monomial) (p : Polynomial) (n : Monomial) (q : Polynomial) → IsWithin b m → IsWithin b n →
       Each (IsWithin b) p → Each (IsWithin b) q →
       IsPoly falling mono_times mono_over (IsWithin b) (cancelled m p n q).poly
-  unfolding cancelled
   poly_cancelled m p n q hm hn hp hq = record {
     canonical = (IsPolynomial-cancelled m p n q).canonical;
-    ok = within_number (pos (content (crossed m p n q))) (crossed m p n q) (within_crossed m p n q hm hn hp hq);
+    ok = each_cancelled (IsWithin b) (within_times b) m p n q hm hn hp hq;
   }
 
   at-cancelled : (k m : Monomial) (p : Polynomial) (n : Monomial) (q : Polynomial) →

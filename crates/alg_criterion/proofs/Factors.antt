@@ -1,38 +1,16 @@
 -- The factors that cancel two leading coefficients.
-use Rattle.std.specs.Prelude.{◌≡◌, ◌≢◌, ℕ, zero, suc, ◌*◌, ◌/◌, ◌%◌, ◌<◌, ◌==◌, Bool, true, false, cond, ◌&&◌, List, [], ◌∷◌, ℤ, pos, negsuc, ◌*ℤ◌}
-use Rattle.std.proofs.Common.{refl, sym, ap, ◌∙◌, arith}
-use borrow.Author.Tests.{eqb-true}
-use Rattle.std.specs.List.{list_all}
+use Rattle.std.specs.Prelude.{◌≡◌, ◌≢◌, ℕ, suc, ◌*◌, ◌/◌, ℤ, pos, negsuc, ◌*ℤ◌}
+use Rattle.std.proofs.Common.{sym, ap, ◌∙◌}
 use Rattle.std.specs.Int.{◌∣◌}
 use Rattle.std.specs.Int.RustNames.{unsigned_abs, int_div}
-use Rattle.std.proofs.lemmas.Nat.Gcd.{dvd_of_mod-eq-zero}
 use Rattle.std.proofs.Math.Nat.{mul-div_cancel'}
 use lib.IntN.{neg_ℤ, pos-*ℤ-pos, neg_ℤ-neg_ℤ}
 use Rattle.alg_mono.proofs.Numbers.{*ℤ_comm, *ℤ_assoc}
 use Rattle.alg_mono.proofs.Integers.{neg_ℤ-*ℤ}
 use Rattle.alg_poly.proofs.Contents.{exact_quotient}
-use Rattle.alg_groebner.specs.Divisors.{greatest_up_to, common}
+use Rattle.alg_groebner.specs.Divisors.{common}
 use Rattle.alg_groebner.specs.Cancelling.{signed_as, left_factor, right_factor}
-use Rattle.alg_groebner.proofs.Divisors.{common_divides, some_size}
-
--- what divides all divides the first
-greatest_first : (n : ℕ) (c : ℤ) (cs : List ℤ) → greatest_up_to n (c ∷ cs) ∣ unsigned_abs c
-greatest_first zero c cs = dvd_of_mod-eq-zero 1 (omega arith)
-greatest_first (suc n) c cs =
-    elim (list_all (λ c. unsigned_abs c % suc n == 0) (c ∷ cs)) as
-    (λ b. list_all (λ c. unsigned_abs c % suc n == 0) (c ∷ cs) ≡ b →
-    cond b (suc n) (greatest_up_to n (c ∷ cs)) ∣ unsigned_abs c) [
-      | true ↦ λ e. dvd_of_mod-eq-zero (suc n) (eqb-true (unsigned_abs c % suc n) 0 (front _ _ e))
-      | false ↦ λ e. greatest_first n c cs
-    ] refl
-  where
-    front : (a b : Bool) → (a && b) ≡ true → a ≡ true
-    front true b p = refl
-    front false b p = p
-
-common_first : (u v : ℤ) → common u v ∣ unsigned_abs u
-unfolding common
-common_first u v = greatest_first (unsigned_abs u) u (v ∷ [])
+use Rattle.alg_groebner.proofs.Divisors.{common_divides, common_first}
 
 swapped : (a c u : ℤ) → a *ℤ (c *ℤ u) ≡ u *ℤ (c *ℤ a)
 swapped a c u = *ℤ_comm a (c *ℤ u) ∙ ap (λ x. x *ℤ a) (*ℤ_comm c u) ∙ *ℤ_assoc u c a
@@ -47,17 +25,6 @@ balanced : (u : ℤ) (e n : ℕ) → e ∣ unsigned_abs u → e ∣ n → pos (n
 balanced u e n du dn =
     ap (λ x. pos (n / e) *ℤ x) (sym (exact_quotient u (pos e) du)) ∙ swapped (pos (n / e)) (pos e) (int_div u (pos e))
     ∙ ap (λ x. int_div u (pos e) *ℤ x) (pos-*ℤ-pos e (n / e) ∙ ap pos (mul-div_cancel' e dn))
-
-apart : (n e : ℕ) → e ∣ n → 0 < n → pos (n / e) ≢ pos 0
-apart n e d h z =
-    let y : n / e ≡ 0 = ap unsigned_abs z in
-    let x : e * (n / e) ≡ n = mul-div_cancel' e d in
-    let w : e * (n / e) ≡ 0 = ap (λ (m : ℕ). e * m) y ∙ omega arith in
-    omega arith
-
--- the left factor is not zero
-pub left_some : (u v : ℤ) → v ≢ pos 0 → left_factor u v ≢ pos 0
-left_some u v h = apart (unsigned_abs v) (common u v) ((common_divides u v h).1) (some_size v h)
 
 -- a*u is b*v
 pub factors_balance : (u v : ℤ) → v ≢ pos 0 → left_factor u v *ℤ u ≡ right_factor u v *ℤ v

@@ -12,10 +12,10 @@ use Rattle.alg_mono.proofs.Canonical.{IsCanonical-collect, equal}
 use Rattle.alg_mono.proofs.Lcm.{exponent-mono_over}
 use Rattle.alg_mono.proofs.Merges.{keep_front}
 use Rattle.alg_mono.proofs.MergeTurns.{drop_at}
-use Rattle.alg_field.specs.Factors.{FactorMap, order, exponent_of, lacks}
-use Rattle.alg_field.specs.Lists.{map_of, IsList, IsFactor, MAX_POWER, beyond}
-use Rattle.alg_field.proofs.Order.{order_total, order_anti}
-use Rattle.alg_field.proofs.ListMaps.{exponent-map_of, same_map}
+use Rattle.alg_reify.specs.FactorMaps.{FactorMap, order, exponent_of, lacks, map_of}
+use Rattle.alg_field.specs.Lists.{IsList, IsFactor, MAX_POWER, beyond}
+use Rattle.alg_reify.proofs.FactorOrder.{order_total, order_anti}
+use Rattle.alg_reify.proofs.FactorLists.{exponent-map_of, same_map}
 
 exponent-keep : (q k : Polynomial) (n : ℕ) (es : FactorMap) →
     exponent_of q (keep order exponents k n es) ≡ cond (eq_by_cmp order q k) n 0 + exponent_of q es

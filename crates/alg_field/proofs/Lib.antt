@@ -1,4 +1,3 @@
-pub mod Order
 pub mod ListMaps
 pub mod Beyond
 pub mod Puts
@@ -9,13 +8,6 @@ pub mod NumberTests
 pub mod Multiplied
 pub mod Scaling
 pub mod MapRules
-pub mod Giving
 pub mod Units
-pub mod EachOnce
-pub mod Operations
-pub mod TermParts
-pub mod TermMade
-pub mod TermLeaves
 pub mod Sides
-pub mod Right
 pub mod Tried

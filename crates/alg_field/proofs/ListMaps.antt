@@ -1,4 +1,4 @@
--- What lists of factors say of the maps that they are, and where a search comes to.
+-- Where a search in a list of factors comes to.
 use Rattle.std.specs.Prelude.{◌≡◌, ◌≢◌, ℕ, zero, suc, ◌+◌, ◌<◌, true, false, cond, [], ◌∷◌, length, drop}
 use Rattle.std.proofs.Common.{get_or, refl, sym, ap, subst, ◌∙◌, T, arith}
 use Rattle.std.specs.Ordering.{is_eq, eq_by_cmp}
@@ -9,23 +9,9 @@ use Rattle.alg_mono.specs.NumberedPolynomials.{Polynomial}
 use Rattle.alg_mono.proofs.Numbers.{exponent_laws}
 use Rattle.alg_mono.proofs.Canonical.{same_canonical, amount-collect, IsCanonical-collect, equal}
 use Rattle.alg_mono.proofs.MergeTurns.{drop_at}
-use Rattle.alg_field.specs.Factors.{FactorMap, order, exponent_of}
-use Rattle.alg_field.specs.Lists.{map_of, IsList, IsFactor}
-use Rattle.alg_field.proofs.Order.{order_total, order_anti}
-
--- a factor's exponent in the map is the sum of those in the list
-pub exponent-map_of : (q : Polynomial) (es : FactorMap) → exponent_of q (map_of es) ≡ exponent_of q es
-exponent-map_of q es = amount-collect exponent_laws order_total order_anti q es
-
--- lists with the same exponents are one map
-pub same_map : (es : FactorMap) (m : FactorMap) → IsCanonical order exponents m →
-    ((q : Polynomial) → exponent_of q es ≡ exponent_of q m) → map_of es ≡ m
-same_map es m c same =
-    same_canonical exponent_laws order_total order_anti (map_of es) m
-    (IsCanonical-collect exponent_laws order_total order_anti es) c (λ q. exponent-map_of q es ∙ same q)
-
-pub itself : (q : Polynomial) → eq_by_cmp order q q ≡ true
-itself q = ap is_eq (tied_itself order_total q)
+use Rattle.alg_reify.specs.FactorMaps.{FactorMap, order, exponent_of, map_of}
+use Rattle.alg_field.specs.Lists.{IsList, IsFactor}
+use Rattle.alg_reify.proofs.FactorLists.{itself, differs}
 
 -- ---- a search
 pub IsList-drop : (es : FactorMap) (i : ℕ) → IsList es → IsList (drop i es)
@@ -52,14 +38,6 @@ exponent_found q es i x d h e list is =
   where
     added : (n m : ℕ) → m ≡ 0 → n ≡ n + m
     added n m z = omega arith
-
--- another factor
-pub differs : (q p : Polynomial) → p ≢ q → eq_by_cmp order q p ≡ false
-differs q p no' =
-    elim (eq_by_cmp order q p) as (λ b. eq_by_cmp order q p ≡ b → b ≡ false) [
-      | true ↦ λ e. absurd (no' (sym (order_anti q p (equal _ (subst T (sym e) tt)))))
-      | false ↦ λ e. refl
-    ] refl
 
 pub exponent_turn : (q : Polynomial) (es : FactorMap) (i : ℕ) (x d : Polynomial × ℕ) → i < length es →
     x ≡ get_or es i d → x.0 ≢ q → exponent_of q (drop (i + 1) es) ≡ exponent_of q (drop i es)

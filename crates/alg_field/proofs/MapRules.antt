@@ -18,24 +18,12 @@ use Rattle.alg_mono.proofs.Outcomes.{says_at}
 use Rattle.alg_meaning.specs.FractionRules.{all_factors, over_outcome, below_outcome}
 use Rattle.alg_reify.proofs.FactorProducts.{product-collect}
 use Rattle.alg_reify.proofs.RenamedMaps.{exponent-scaled}
-use Rattle.alg_field.specs.Factors.{FactorMap, order, exponent_of, times_map, power_map, product}
-use Rattle.alg_field.specs.Lists.{map_of, IsFactor, IsList, MAX_POWER}
-use Rattle.alg_field.specs.Rules.{norms, degrees}
-use Rattle.alg_field.proofs.Measures.{each_factor, each_some, norms-append, degrees-append, norms-scaled, degrees-scaled, norms-map_of, degrees-map_of, zero-map_of, below_is}
-use Rattle.alg_field.proofs.Order.{order_total, order_anti}
+use Rattle.alg_reify.specs.FactorMaps.{FactorMap, order, exponent_of, times_map, power_map, product, map_of, norms, degrees}
+use Rattle.alg_field.specs.Lists.{IsFactor, IsList, MAX_POWER}
+use Rattle.alg_field.proofs.Measures.{each_factor, each_some, norms-append, degrees-append, norms-scaled, degrees-scaled, below_is}
+use Rattle.alg_reify.proofs.FactorLists.{norms-map_of, degrees-map_of, zero-map_of}
+use Rattle.alg_reify.proofs.FactorOrder.{order_total, order_anti}
 use Rattle.alg_field.proofs.Within.{exponent_within}
-
--- the product of a map is that of its list
-pub product-map_of : (m : FactorMap) → product (map_of m) ≡ product m
-product-map_of m = product-collect nat_cmp_total nat_cmp-IsAntisymmetric m
-
--- a polynomial times the factors of a map breaks the rule that it breaks with its list
-pub over-map_of : (p : Polynomial) (m : FactorMap) → over_outcome p (map_of m) ≡ over_outcome p m
-over-map_of p m =
-    let low = sum_by-cons (λ (q : Polynomial). poly_degree q) p (all_factors (map_of m))
-    ∙ ap (λ d. poly_degree p + d) (degrees-map_of m)
-    ∙ sym (sum_by-cons (λ (q : Polynomial). poly_degree q) p (all_factors m)) in
-    λ i. cond (is_nothing p || zero-map_of m i) Outcome.Fine (outcome (norm p * norms-map_of m i) (low i))
 
 each_map : (m : FactorMap) → Each IsFactor m → Each IsFactor (map_of m)
 each_map m h = Each-collect order exponents IsFactor m h

@@ -15,10 +15,9 @@ use Rattle.alg_mono.specs.NumberedPolynomials.{Polynomial}
 use Rattle.alg_meaning.specs.FactorsOver.{FactorsOver}
 use Rattle.alg_meaning.specs.FractionRules.{all_factors, over_outcome, below_outcome}
 use Rattle.alg_reify.proofs.FactorMeasures.{many, many_adds, measure, measure-all, norm_sum, either_sum, norm_measure, zero_measure, degree_measure}
-use Rattle.alg_field.specs.Factors.{FactorMap}
-use Rattle.alg_field.specs.Lists.{IsFactor, IsList, map_of}
-use Rattle.alg_field.specs.Rules.{norms, degrees}
-use Rattle.alg_field.proofs.Order.{order_anti}
+use Rattle.alg_reify.specs.FactorMaps.{FactorMap, map_of, norms, degrees}
+use Rattle.alg_field.specs.Lists.{IsFactor, IsList}
+use Rattle.alg_reify.proofs.FactorOrder.{order_anti}
 
 pub product_some : (a b : ℕ) → 0 < a → 0 < b → 0 < a * b
 product_some a b h g =
@@ -173,26 +172,6 @@ degrees-scaled n (e ∷ m) =
   where
     times_in : (n k d s x : ℕ) → x ≡ n * s → k * n * d + x ≡ n * (k * d + s)
     times_in n k d s x h = omega (arith, h)
-
--- the map of a list
-measure-map : {B : Type 0} {none : B} {plus : B → B → B} (S : IsSum none plus) (h : Polynomial → B) (m : FactorMap) →
-    measure S h (all_factors (map_of m)) ≡ measure S h (all_factors m)
-measure-map S h m =
-    measure-all S h (map_of m) ∙ total-collect exponent_laws order_anti S (many_adds S h) m ∙ sym (measure-all S h m)
-
-pub norms-map_of : (m : FactorMap) → norms (map_of m) ≡ norms m
-norms-map_of m =
-    norm_measure (all_factors (map_of m)) ∙ measure-map norm_sum (λ p. norm p) m ∙ sym (norm_measure (all_factors m))
-
-pub degrees-map_of : (m : FactorMap) → degrees (map_of m) ≡ degrees m
-degrees-map_of m =
-    degree_measure (all_factors (map_of m)) ∙ measure-map natural_sum (λ p. poly_degree p) m
-    ∙ sym (degree_measure (all_factors m))
-
-pub zero-map_of : (m : FactorMap) → has_zero (all_factors (map_of m)) ≡ has_zero (all_factors m)
-zero-map_of m =
-    zero_measure (all_factors (map_of m)) ∙ measure-map either_sum (λ p. is_nothing p) m
-    ∙ sym (zero_measure (all_factors m))
 
 -- the product of all factors, none of which is zero, breaks the rule that the bounds break
 pub below_is : (m : FactorMap) → Each (λ q. 0 < norm q) m → below_outcome m ≡ outcome (norms m) (degrees m)

@@ -9,22 +9,19 @@ use Rattle.std.specs.FinMap.{nat_cmp-IsAntisymmetric}
 use Rattle.alg_mono.specs.Monomials.{MAX_DEGREE, mono_times}
 use Rattle.alg_mono.specs.NumberedPolynomials.{Polynomial, before, power_of, product_of}
 use Rattle.alg_mono.specs.Numbers.{integers}
-use Rattle.alg_mono.specs.Polynomials.{MAX, norm, poly_degree}
+use Rattle.alg_mono.specs.Polynomials.{MAX, norm, poly_degree, IsPoly}
 use Rattle.alg_mono.proofs.Degrees.{degree-poly_power, degree-poly_times}
 use Rattle.alg_mono.proofs.Norms.{norm-poly_power, norm-poly_times}
 use Rattle.alg_mono.specs.Outcomes.{Outcome, is_nothing}
-use Rattle.alg_mono.specs.Polynomials.{IsPoly}
 use Rattle.alg_mono.proofs.Outcomes.{says_at}
 use Rattle.alg_meaning.specs.FractionRules.{over_outcome}
-use Rattle.alg_reify.proofs.FactorProducts.{times_one}
+use Rattle.alg_reify.proofs.FactorProducts.{times_one, product_sum}
 use Rattle.alg_mono.proofs.MergeTurns.{drop_at}
-use Rattle.alg_reify.proofs.FactorProducts.{product_sum}
-use Rattle.alg_field.specs.Factors.{FactorMap, product}
-use Rattle.alg_field.specs.Rules.{norms, degrees}
+use Rattle.alg_reify.specs.FactorMaps.{FactorMap, product, norms, degrees}
 use Rattle.alg_field.specs.Within.{IsWithin}
 use Rattle.alg_field.specs.Lists.{IsList}
 use Rattle.alg_field.proofs.Measures.{norm_first, degree_first, norms_some, times_more, power_some, each_some, each_factor, over_is}
-use Rattle.alg_field.proofs.NumberTests.{norm_some}
+use Rattle.alg_reify.proofs.NormsSome.{norm_some}
 
 module _ (list : FactorMap) (i : ℕ) (x d : Polynomial × ℕ) (out : Polynomial) (h : i < length list)
     (e : x ≡ get_or list i d) (w : IsWithin out (drop i list)) where

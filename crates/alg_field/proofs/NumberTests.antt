@@ -23,8 +23,8 @@ use Rattle.alg_horner.proofs.Unique.{same_map}
 use Rattle.alg_reify.proofs.Coefficients.{passes, only_equal}
 use Rattle.alg_reify.proofs.Once.{same_test}
 use Rattle.alg_field.specs.Constants.{IsNumber}
-use Rattle.alg_field.specs.Factors.{order}
-use Rattle.alg_field.proofs.Order.{order_total, order_anti}
+use Rattle.alg_reify.specs.FactorMaps.{order}
+use Rattle.alg_reify.proofs.FactorOrder.{order_total, order_anti}
 
 -- the tree of a number
 number_tree : (h : Horner) (n : ℤ) → form_of h ≡ Form.Const n → h ≡ Const n
@@ -76,16 +76,3 @@ number_test p (Some c) d h some =
     (λ e. let same = (Decides-int_eq c d).0 e in
     passes order_total p (([], d) ∷ []) (h ∙ ap (λ n. term_of [] n) same ∙ is))
     (λ e. (Decides-int_eq c d).1 (number_from c d (is_zero c) (sym h ∙ only_equal order_anti p (([], d) ∷ []) e)))
-
--- what isn't 0 has a norm
-pub some_number : (c : ℤ) → T (not (is_zero c)) → 0 < unsigned_abs c
-some_number (pos zero) h = absurd h
-some_number (pos (suc n)) h = omega arith
-some_number (negsuc n) h = omega arith
-
-pub norm_some : (p : Polynomial) → IsPoly nat_cmp p → is_nothing p ≡ false → 0 < norm p
-norm_some [] h e = absurd (cc)
-norm_some (e ∷ p) h is =
-    let terms = h.polynomial.canonical.no_none in
-    let some = some_number e.1 (first (not (is_zero e.1)) (all_some before integers.amounts p) terms) in
-    omega (arith, norm-cons e p, some)

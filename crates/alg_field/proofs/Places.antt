@@ -4,9 +4,9 @@ use Rattle.std.proofs.Common.{get_or, refl, sym, ap, subst, ◌∙◌, arith}
 use Rattle.std.specs.Ordering.{eq_by_cmp}
 use Rattle.alg_mono.specs.NumberedPolynomials.{Polynomial}
 use Rattle.alg_mono.proofs.MergeTurns.{drop_at}
-use Rattle.alg_field.specs.Factors.{FactorMap, order, exponent_of}
+use Rattle.alg_reify.specs.FactorMaps.{FactorMap, order, exponent_of}
 use Rattle.alg_field.specs.Lists.{put, place_of}
-use Rattle.alg_field.proofs.ListMaps.{itself, differs}
+use Rattle.alg_reify.proofs.FactorLists.{itself, differs}
 
 pub place_turn : (q : Polynomial) (es : FactorMap) (i : ℕ) (x d : Polynomial × ℕ) → i < length es →
     x ≡ get_or es i d → x.0 ≢ q → (i + 1) + place_of q (drop (i + 1) es) ≡ i + place_of q (drop i es)

@@ -8,10 +8,10 @@ use Rattle.alg_mono.proofs.Canonical.{IsCanonical-collect, equal}
 use Rattle.alg_mono.proofs.Lcm.{exponent-mono_over}
 use Rattle.alg_mono.proofs.Monomials.{exponent-mono_times}
 use Rattle.alg_mono.proofs.MergeTurns.{drop_at}
-use Rattle.alg_field.specs.Factors.{FactorMap, order, exponent_of, times_map, lacks}
-use Rattle.alg_field.specs.Lists.{map_of, IsList, IsFactor, MAX_POWER, put, put_all}
-use Rattle.alg_field.proofs.Order.{order_total, order_anti}
-use Rattle.alg_field.proofs.ListMaps.{exponent-map_of, same_map, itself, differs}
+use Rattle.alg_reify.specs.FactorMaps.{FactorMap, order, exponent_of, times_map, lacks, map_of}
+use Rattle.alg_field.specs.Lists.{IsList, IsFactor, MAX_POWER, put, put_all}
+use Rattle.alg_reify.proofs.FactorOrder.{order_total, order_anti}
+use Rattle.alg_reify.proofs.FactorLists.{exponent-map_of, same_map, itself, differs}
 
 pub exponent-put : (q k : Polynomial) (n : ℕ) (es : FactorMap) →
     exponent_of q (put k n es) ≡ exponent_of q es + cond (eq_by_cmp order q k) n 0

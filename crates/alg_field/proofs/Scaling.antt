@@ -8,10 +8,10 @@ use Rattle.alg_mono.specs.NumberedPolynomials.{Polynomial}
 use Rattle.alg_mono.proofs.Canonical.{IsCanonical-collect}
 use Rattle.alg_mono.proofs.Numbers.{exponent_laws}
 use Rattle.alg_reify.proofs.RenamedMaps.{exponent-scaled}
-use Rattle.alg_field.specs.Factors.{FactorMap, order, exponent_of, power_map}
-use Rattle.alg_field.specs.Lists.{map_of, IsList, MAX_POWER}
-use Rattle.alg_field.proofs.Order.{order_total, order_anti}
-use Rattle.alg_field.proofs.ListMaps.{exponent-map_of, same_map, itself}
+use Rattle.alg_reify.specs.FactorMaps.{FactorMap, order, exponent_of, power_map, map_of}
+use Rattle.alg_field.specs.Lists.{IsList, MAX_POWER}
+use Rattle.alg_reify.proofs.FactorOrder.{order_total, order_anti}
+use Rattle.alg_reify.proofs.FactorLists.{exponent-map_of, same_map, itself}
 
 -- the first i exponents n times
 abbrev pub scaled_to : ℕ → ℕ → FactorMap → FactorMap

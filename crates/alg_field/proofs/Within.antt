@@ -1,21 +1,19 @@
 -- Where the product of all factors is within the limits, no exponent is over its own.
-use Rattle.std.specs.Prelude.{◌≡◌, ℕ, ◌+◌, ◌*◌, ◌^◌, ◌<◌, ◌≤◌, true, false, cond, [], ◌∷◌}
+use Rattle.std.specs.Prelude.{◌≡◌, ℕ, ◌+◌, ◌*◌, ◌^◌, ◌<◌, ◌≤◌, true, false, cond, [], ◌∷◌, nat_lt}
 use Rattle.std.proofs.Common.{refl, sym, ap, subst, arith, T}
 use Rattle.std.proofs.Math.Nat.{pow-zero, pow-le-pow_left}
 use Rattle.std.proofs.Math.Pow.{pow_mono}
 use Rattle.std.proofs.lemmas.Nat.{mul-le, pow-add}
 use Rattle.std.proofs.lemmas.Bool.{ltb-true, ltb-false}
-use Rattle.std.specs.Prelude.{nat_lt}
 use Rattle.std.specs.Ordering.{eq_by_cmp}
 use Rattle.alg_mono.specs.FiniteMaps.{Each}
 use Rattle.alg_mono.specs.Monomials.{MAX_DEGREE}
 use Rattle.alg_mono.specs.NumberedPolynomials.{Polynomial}
 use Rattle.alg_mono.specs.Polynomials.{MAX, norm, poly_degree}
 use Rattle.alg_mono.proofs.Canonical.{equal}
-use Rattle.alg_field.specs.Factors.{FactorMap, order, exponent_of}
+use Rattle.alg_reify.specs.FactorMaps.{FactorMap, order, exponent_of, norms, degrees}
 use Rattle.alg_field.specs.Lists.{IsFactor, MAX_POWER}
-use Rattle.alg_field.specs.Rules.{norms, degrees}
-use Rattle.alg_field.proofs.Order.{order_anti}
+use Rattle.alg_reify.proofs.FactorOrder.{order_anti}
 use Rattle.alg_field.proofs.Measures.{norm_first, degree_first, power_some, each_some}
 
 same_polynomial : (q p : Polynomial) → eq_by_cmp order q p ≡ true → q ≡ p

@@ -6,16 +6,15 @@ use Rattle.alg_terms.specs.declared.term.Term.{Term}
 use Rattle.alg_terms.specs.declared.file.File.{File}
 use Rattle.alg_terms.specs.declared.goals.Equation.{Equation}
 use Rattle.alg_mono.specs.NumberedPolynomials.{Polynomial, DifferFirst}
-use Rattle.alg_meaning.specs.Conditions.{conditions_of}
-use Rattle.alg_meaning.specs.FractionOutcome.{FractionOutcome}
 use Rattle.alg_reify.specs.declared.stop.Stop.{Stop}
 use Rattle.alg_reify.specs.FieldVerdict.{FieldVerdict, IsFieldVerdict, left_numerator, right_numerator, sides_outcome}
+use Rattle.alg_reify.specs.MadeSides.{AreCleared}
 use Rattle.alg_reify.specs.Numbered.{numbered}
 use Rattle.alg_reify.specs.RingVerdict.{own_table}
 use Rattle.alg_field.specs.declared.decide.FieldAnswer.{FieldAnswer}
 use Rattle.alg_field.specs.declared.decide.Sides.{Sides}
-use Rattle.alg_field.specs.declared.ends.FractionEnd.{FractionEnd}
-use Rattle.alg_field.specs.Ends.{TellsEnd}
+use Rattle.alg_reify.specs.declared.ends.FractionEnd.{FractionEnd}
+use Rattle.alg_reify.specs.Ends.{TellsEnd}
 
 -- the verdict that an answer is
 abbrev pub verdict_of : FieldAnswer → FieldVerdict
@@ -50,11 +49,8 @@ IsComparison p q conditions (FieldAnswer.No at left right) = DifferFirst p q at 
 IsComparison p q conditions (FieldAnswer.ZeroDenominator t) = ⊥
 
 -- the cleared numerators of both sides, with the conditions
-pub record AreSides (file : File) (e : Equation) (s : Sides) : Type 0 where
-  pub left : s.left ≡ numbered (own_table file e) (left_numerator e)
-  pub right : s.right ≡ numbered (own_table file e) (right_numerator e)
-  pub fine : sides_outcome e ≡ FractionOutcome.Fine
-  pub conditions : s.conditions.items ≡ conditions_of file e
+abbrev pub AreSides : File → Equation → Sides → Type 0
+AreSides file e s = AreCleared file e s.conditions.items s.left s.right
 
 -- they were made, or the end is told
 abbrev pub MakesSides : File → Equation → Result Sides FractionEnd → Type 0

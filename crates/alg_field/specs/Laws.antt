@@ -1,17 +1,7 @@
 -- An equation that is proved by field is right under its conditions.
-use Rattle.std.specs.Prelude.{◌≡◌, ◌<◌, ℕ, List, [], length}
-use Rattle.alg_terms.specs.declared.file.File.{File}
-use Rattle.alg_terms.specs.declared.goals.Method.TheVariants.{ByField}
-use Rattle.alg_terms.specs.declared.term.Term.{Term}
-use Rattle.alg_terms.specs.Members.{goal_at}
-use Rattle.alg_terms.specs.Valid.{IsValid}
 use Rattle.alg_universe.specs.declared.universe.Universe.{Ghosts}
-use Rattle.alg_universe.specs.Right.{IsRight}
-use Rattle.alg_reify.specs.FieldVerdict.{FieldVerdict, IsFieldVerdict}
+use Rattle.alg_reify.specs.RightLaws.{FieldProvedIsRight}
 
 -- each goal by field of a valid file is right where its verdict is Proved, under the verdict's conditions
 abbrev pub ProvedIsRight : {E : Type 0} → Ghosts E → Type 0
-ProvedIsRight u =
-    (file : File) (i : ℕ) (conditions : List Term) → IsValid file → i < length file.goals →
-    (goal_at file i).method ≡ ByField → IsFieldVerdict file (goal_at file i).equation (FieldVerdict.Proved conditions) →
-    IsRight u file i conditions []
+ProvedIsRight u = FieldProvedIsRight u

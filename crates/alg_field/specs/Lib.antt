@@ -1,12 +1,8 @@
-pub mod Factors
 pub mod Lists
 pub mod Rules
 pub mod Constants
 pub mod Within
 pub mod Fractions
-pub mod Ends
-pub mod Added
-pub mod Making
 pub mod Answers
 pub mod Laws
 pub mod Tried

@@ -1,15 +1,11 @@
 -- Lists of factors in any order, as the code keeps them.
 use Rattle.std.specs.Prelude.{◌≡◌, ℕ, ◌+◌, ◌-◌, ◌<◌, ◌≤◌, cond, [], ◌∷◌}
 use Rattle.std.specs.Ordering.{eq_by_cmp}
-use Rattle.alg_mono.specs.FiniteMaps.{keep, collect}
+use Rattle.alg_mono.specs.FiniteMaps.{keep}
 use Rattle.alg_mono.specs.Numbers.{exponents}
 use Rattle.alg_mono.specs.NumberedPolynomials.{Polynomial}
 use Rattle.alg_mono.specs.Polynomials.{norm, poly_degree}
-use Rattle.alg_field.specs.Factors.{FactorMap, order, exponent_of}
-
--- the map that a list is: each factor once, with its exponents added up
-abbrev pub map_of : FactorMap → FactorMap
-map_of es = collect order exponents es
+use Rattle.alg_reify.specs.FactorMaps.{FactorMap, order, exponent_of}
 
 -- a polynomial other than 0, 1 and -1, by its norm and degree
 pub record IsFactor (q : Polynomial) : Type 0 where

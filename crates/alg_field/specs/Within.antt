@@ -4,8 +4,7 @@ use Rattle.alg_mono.specs.FiniteMaps.{Each}
 use Rattle.alg_mono.specs.Monomials.{MAX_DEGREE}
 use Rattle.alg_mono.specs.NumberedPolynomials.{Polynomial, product_of}
 use Rattle.alg_mono.specs.Polynomials.{MAX, norm, poly_degree}
-use Rattle.alg_field.specs.Factors.{FactorMap, product}
-use Rattle.alg_field.specs.Rules.{norms, degrees}
+use Rattle.alg_reify.specs.FactorMaps.{FactorMap, product, norms, degrees}
 
 -- 1 changes nothing, no factor is zero, and the bounds are kept
 pub record IsWithin (out : Polynomial) (rest : FactorMap) : Type 0 where

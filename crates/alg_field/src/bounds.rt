@@ -6,7 +6,8 @@ ghost use Rattle.alg_mono.specs.Outcomes.{outcome};
 ghost use Rattle.alg_mono.specs.Polynomials.{MAX, norm};
 ghost use Rattle.alg_meaning.specs.FractionRules.{over_outcome};
 ghost use Rattle.alg_field.specs.Lists.{IsList};
-ghost use Rattle.alg_field.specs.Rules.{outcome_of, IsBound, norms, degrees};
+ghost use Rattle.alg_field.specs.Rules.{outcome_of, IsBound};
+ghost use Rattle.alg_reify.specs.FactorMaps.{norms, degrees};
 
 use crate::HornerPoly;
 use crate::constants::is_zero;

@@ -5,7 +5,7 @@ ghost use Rattle.alg_mono.specs.NumberedPolynomials.{product_of};
 ghost use Rattle.alg_mono.specs.Outcomes.{Outcome};
 ghost use Rattle.alg_mono.specs.Refusals.{Tells};
 ghost use Rattle.alg_meaning.specs.FractionRules.{worse, over_outcome};
-ghost use Rattle.alg_field.specs.Factors.{lacks, product};
+ghost use Rattle.alg_reify.specs.FactorMaps.{lacks, product};
 
 use crate::factors::Factors;
 use crate::rules::{kept, worse};

@@ -2,17 +2,14 @@
 
 ghost use Rattle.std.specs.Prelude.{◌≡◌, IfOk, IfErr};
 ghost use Rattle.alg_terms.specs.GoalRules.{IsEquation};
-ghost use Rattle.alg_terms.specs.Members.{sort_at};
 ghost use Rattle.alg_reify.specs.FieldVerdict.{IsFieldVerdict};
 ghost use Rattle.alg_reify.specs.RingVerdict.{own_table};
 ghost use Rattle.alg_field.specs.Answers.{verdict_of, Stops, HasNumerators, IsComparison, MakesSides};
 
-use crate::ends::FractionEnd;
-use crate::fraction::numerators;
-use crate::make::make;
+use crate::fraction::{Fraction, numerators};
 use crate::{HornerPoly, Mono, NoMemory, Stop};
 use alg_poly::Poly;
-use alg_reify::{Atoms, atoms_of};
+use alg_reify::{Atoms, FractionEnd, atoms_of, reify_sides};
 use alg_terms::{Equation, File, Seq, Term};
 use std::alloc::Global;
 
@@ -85,16 +82,6 @@ pub fn decide_field(alloc: Global, file: &File, equation: &Equation) -> Result<F
     }
 }
 
-/// Whether a sort of the file is declared of characteristic 0.
-fn has_char0(file: &File, sort: u32) -> bool
-    ensures { result ≡ (sort_at file.now sort).char0 }
-{
-    match file.sorts.items().get(sort as usize) {
-        Some(sort) => sort.char0,
-        None => false,
-    }
-}
-
 /// The cleared numerators of both sides: the left side is made first, then the right one, and then
 /// both numerators.
 fn make_sides(
@@ -107,24 +94,13 @@ fn make_sides(
     requires table { table.now ≡ own_table file.now equation.now }
     ensures { MakesSides file.now equation.now result }
 {
-    let char0 = has_char0(file, equation.sort);
-    let mut path = Vec::new(alloc);
     let mut conditions = Vec::new(alloc);
-    let left = make(
+    let (left, right): (Fraction, Fraction) = reify_sides(
         alloc,
+        file,
+        equation,
         table,
-        char0,
-        &mut path,
         &mut conditions,
-        &equation.left,
-    )?;
-    let right = make(
-        alloc,
-        table,
-        char0,
-        &mut path,
-        &mut conditions,
-        &equation.right,
     )?;
     let (left, right) = numerators(alloc, left, right)?;
     Ok(Sides {

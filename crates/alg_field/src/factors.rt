@@ -6,7 +6,7 @@ ghost use Rattle.alg_mono.specs.NumberedPolynomials.{product_of};
 ghost use Rattle.alg_mono.specs.Numbers.{exponents};
 ghost use Rattle.alg_mono.specs.Outcomes.{Outcome};
 ghost use Rattle.alg_meaning.specs.FractionRules.{over_outcome, below_outcome};
-ghost use Rattle.alg_field.specs.Factors.{order, lacks, times_map, power_map, product};
+ghost use Rattle.alg_reify.specs.FactorMaps.{order, lacks, times_map, power_map, product};
 ghost use Rattle.alg_field.specs.Lists.{IsFactor};
 ghost use Rattle.alg_field.specs.Rules.{outcome_of};
 
@@ -26,8 +26,8 @@ pub(crate) struct Factors {
 }
 
 impl Model for Factors {
-    ghost use Rattle.alg_field.specs.Factors.{FactorMap};
-    ghost use Rattle.alg_field.specs.Lists.{map_of, IsList};
+    ghost use Rattle.alg_reify.specs.FactorMaps.{FactorMap, map_of};
+    ghost use Rattle.alg_field.specs.Lists.{IsList};
 
     ghost Value = { FactorMap };
 

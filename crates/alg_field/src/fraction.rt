@@ -9,8 +9,9 @@ ghost use Rattle.alg_mono.specs.Outcomes.{Outcome, is_nothing, first_breach, sum
 ghost use Rattle.alg_mono.specs.Refusals.{Tells};
 ghost use Rattle.alg_meaning.specs.FractionRules.{worse, all_factors, over_outcome, below_outcome, cleared_outcome, sum_of_fractions, product_of_fractions, quotient_of_fractions, power_of_fraction};
 ghost use Rattle.alg_meaning.specs.FractionsOver.{is_unit, cleared, frac_opposite, frac_sum, frac_difference, frac_product, frac_quotient, frac_power};
-ghost use Rattle.alg_field.specs.Factors.{order, times_map, product};
-ghost use Rattle.alg_field.specs.Fractions.{fraction_of, Gives, MakesFraction};
+ghost use Rattle.alg_reify.specs.FactorMaps.{order, times_map, product};
+ghost use Rattle.alg_field.specs.Fractions.{fraction_of, MakesFraction};
+ghost use Rattle.alg_reify.specs.Making.{Gives};
 
 use crate::common::{Lacks, cleared, lacks_of};
 use crate::constants::is_unit;

@@ -9,15 +9,13 @@
 
 mod bounds;
 mod common;
-mod conditions;
 mod constants;
 mod decide;
-mod ends;
 mod factors;
+mod form;
 mod fraction;
 pub mod laws;
 mod lists;
-mod make;
 mod multiply;
 mod rules;
 #[cfg(test)]

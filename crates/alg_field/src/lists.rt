@@ -3,7 +3,7 @@
 ghost use Rattle.std.specs.Prelude.{◌≡◌, ◌+◌, ◌*◌, ◌≤◌, ◌++◌, ◌∷◌, [], IfOk, OnOk, length};
 ghost use Rattle.alg_mono.specs.Monomials.{scaled};
 ghost use Rattle.alg_mono.specs.NumberedPolynomials.{Polynomial};
-ghost use Rattle.alg_field.specs.Factors.{exponent_of};
+ghost use Rattle.alg_reify.specs.FactorMaps.{exponent_of};
 ghost use Rattle.alg_field.specs.Lists.{IsList, MAX_POWER, put, put_all, beyond, place_of};
 
 use crate::{HornerPoly, NoMemory};

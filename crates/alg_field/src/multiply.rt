@@ -6,7 +6,7 @@ ghost use Rattle.alg_mono.specs.NumberedPolynomials.{power_of, product_of};
 ghost use Rattle.alg_mono.specs.Outcomes.{Outcome};
 ghost use Rattle.alg_mono.specs.Polynomials.{MAX, norm, poly_degree};
 ghost use Rattle.alg_meaning.specs.FractionRules.{over_outcome};
-ghost use Rattle.alg_field.specs.Factors.{product};
+ghost use Rattle.alg_reify.specs.FactorMaps.{product};
 ghost use Rattle.alg_field.specs.Lists.{IsList};
 ghost use Rattle.alg_field.specs.Within.{IsWithin};
 

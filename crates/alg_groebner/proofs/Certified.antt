@@ -11,7 +11,7 @@ use Rattle.alg_lines.specs.declared.cert.GoalStep.{GoalStep}
 use Rattle.alg_groebner.specs.State.{State, End}
 use Rattle.alg_groebner.specs.Choices.{remainder_at}
 use Rattle.alg_groebner.specs.Pruning.{mark, mark_steps, marks_of, numbers_after, renumbered_step, kept_lines, certificate_from, certificate}
-use Rattle.alg_groebner.specs.Follows.{Follows, now, later}
+use Rattle.alg_groebner.specs.Follows.{Follows}
 use Rattle.alg_groebner.specs.Runs.{Comes, runs, too_great, too_high, powers, powers_outcome, first_state}
 use Rattle.alg_groebner.specs.Sound.{IsSound}
 use Rattle.alg_groebner.specs.Laws.{CertificatesAreGood}
@@ -19,10 +19,10 @@ use Rattle.alg_groebner.specs.declared.remainder.Remainder.{Remainder}
 use Rattle.alg_groebner.proofs.Found.{same_some, none_some}
 use Rattle.alg_groebner.proofs.Ordered.{first_in_order, follows_if_runs}
 use Rattle.alg_groebner.proofs.Ending.{runs_sound, zero_found, position_within, first_sound}
-use Rattle.alg_groebner.proofs.Followed.{IsP, IsFaithful, AllSteps, goes_faithful}
-use Rattle.alg_groebner.proofs.Keeping.{goes_kept}
+use Rattle.alg_groebner.proofs.Followed.{IsP, IsFaithful, AllSteps, moves_follow}
 use Rattle.alg_groebner.proofs.Kept.{At, keep, AllCited, lines_kept, steps_kept, closed, bounded, lines_rise, steps_rise, set_here}
 use Rattle.alg_groebner.proofs.Pruned.{length-marks_of, length-mark_lines, length-mark_steps}
+use Rattle.alg_groebner.proofs.Walked.{run_keeps}
 
 -- ---- the marks of a certificate
 all_hypotheses : (s n k : ℕ) → k < s → At (replicate s true ++ replicate n false) k
@@ -93,16 +93,14 @@ pruned_good hyps made all g ss a b =
 -- ---- the run
 pub runs_faithful : (hyps : List Polynomial) (g : Polynomial) (limit : ℕ) (st last : State) (e : End) →
     Follows limit st last e → IsSound limit st → IsFaithful hyps g st → IsFaithful hyps g last
-runs_faithful hyps g limit st last e (now h) s f = f
-runs_faithful hyps g limit st last e (later {to = to} h r) s f =
-    runs_faithful hyps g limit to last e r ((goes_kept limit st to s h).0) (goes_faithful hyps g limit st to s f h)
+runs_faithful hyps g limit st last e ran s f = run_keeps (moves_follow hyps g) limit st last e ran s f
 
 IsFine : Outcome → Type 0
 IsFine Outcome.Fine = Unit {0}
 IsFine Outcome.Range = ⊥
 IsFine Outcome.Degree = ⊥
 
-both_fine : (o p : Outcome) → first_breach o p ≡ Outcome.Fine → (o ≡ Outcome.Fine) × (p ≡ Outcome.Fine)
+pub both_fine : (o p : Outcome) → first_breach o p ≡ Outcome.Fine → (o ≡ Outcome.Fine) × (p ≡ Outcome.Fine)
 unfolding IsFine
 both_fine Outcome.Fine p e = (refl, e)
 both_fine Outcome.Range p e = absurd (subst IsFine (sym e) tt)

@@ -1,5 +1,5 @@
 -- Each state has a rule that is taken, in order or not, and it keeps what holds of the states.
-use Rattle.std.specs.Prelude.{◌≡◌, ℕ, ◌<◌, ◌≤◌, ◌⊎◌, ◌+◌, List, [], ◌∷◌, Option, Some, None, All}
+use Rattle.std.specs.Prelude.{◌≡◌, ℕ, ◌≤◌, ◌⊎◌, ◌+◌, List, [], ◌∷◌, Option, Some, None, All}
 use Rattle.std.proofs.Common.{refl, sym, subst, ◌∙◌, inl, inr, arith}
 use Rattle.std.proofs.lemmas.Bool.{cases_lt}
 use Rattle.std.proofs.lemmas.List.Elements.{All-tail}
@@ -10,7 +10,7 @@ use Rattle.alg_groebner.specs.Leads.{reduces}
 use Rattle.alg_groebner.specs.Moves.{goal_outcome, goal_reduced, line_outcome, line_reduced, pair_outcome, pair_taken, without_pair}
 use Rattle.alg_groebner.specs.Rules.{IsLeast, ReducesIt, IsReducibleAt, Rule, GoalIsZero, GoalIsReduced, LineIsZero, LineIsReduced, LineJoins, InputIsTaken, PairIsTaken, NothingIsLeft, number, Does, Takes}
 use Rattle.alg_groebner.specs.Sound.{HasBoth, AreMembers, IsSound}
-use Rattle.alg_groebner.specs.State.{State, End, Next, Goes, Ends}
+use Rattle.alg_groebner.specs.State.{State, End, Next, Ends}
 use Rattle.alg_groebner.proofs.Found.{none_some}
 use Rattle.alg_groebner.proofs.Keeping.{Keeps, counted_kept, line_kept, goal_kept, joined_kept, dropped_kept, taken_kept}
 use Rattle.alg_groebner.proofs.Lists.{least_of, least_pair}

@@ -1,19 +1,17 @@
 -- The greatest common divisors of the definitions are those that the code finds.
-use Rattle.std.specs.Prelude.{◌≡◌, ◌≢◌, not, ℕ, zero, suc, ◌*◌, ◌/◌, ◌%◌, ◌<◌, ◌≤◌, ◌==◌, ◌&&◌, Bool, true, false, cond, List, [], ◌∷◌, map, ℤ, pos, negsuc, ◌*ℤ◌, ◌≤ℤ◌}
-use Rattle.std.proofs.Common.{refl, sym, ap, subst, ◌∙◌, T, arith}
+use Rattle.std.specs.Prelude.{◌≡◌, ◌≢◌, not, ℕ, zero, suc, ◌%◌, ◌<◌, ◌≤◌, ◌==◌, ◌&&◌, Bool, true, false, cond, List, [], ◌∷◌, map, ℤ, pos, negsuc, ◌≤ℤ◌}
+use Rattle.std.proofs.Common.{refl, sym, subst, ◌∙◌, T, arith}
 use borrow.Author.Tests.{eqb-true, eq-eqb}
 use native.Mathlib.Nat.{pos_of_dvd_of_pos}
 use Rattle.std.specs.List.{list_all}
 use Rattle.std.specs.Int.{IsGcd, ◌∣◌}
-use Rattle.std.specs.Int.RustNames.{unsigned_abs, int_div}
-use Rattle.std.proofs.lemmas.Int.{ints}
-use Rattle.std.proofs.Math.Nat.{mul-div_cancel_left}
-use lib.IntN.{neg_ℤ, pos-*ℤ-pos, pos-*ℤ-negsuc}
+use Rattle.std.specs.Int.RustNames.{unsigned_abs}
 use Rattle.std.proofs.lemmas.Nat.Gcd.{le_of_dvd, dvd_of_mod-eq-zero, mod-eq-zero_of_dvd}
 use Rattle.std.proofs.lemmas.List.Elements.{All-nil, All-head, All-tail, All-cons}
 use Rattle.alg_mono.specs.Numbers.{integers, is_zero}
-use Rattle.alg_mono.specs.Polynomials.{IsPolynomial}
+use Rattle.alg_mono.specs.Polynomials.{IsPolynomial, norm}
 use Rattle.alg_mono.proofs.Canonical.{first}
+use Rattle.alg_mono.proofs.Norms.{norm-cons}
 use Rattle.std.specs.Ordering.{nat_cmp}
 use Rattle.alg_poly.specs.Divisors.{DividesEach, IsContent, times_number}
 use Rattle.alg_poly.proofs.Cancelled.{over_times}
@@ -160,3 +158,24 @@ common_divides u v some =
     let divides : DividesAll g (u ∷ v ∷ []) = greatest_divides (unsigned_abs u) (u ∷ v ∷ []) in
     let second = all_first g v [] (all_rest g u (v ∷ []) divides) in
     (pos_of_dvd_of_pos second (some_size v some), second)
+
+-- and it divides the first of them too
+pub common_first : (u v : ℤ) → common u v ∣ unsigned_abs u
+unfolding common DividesAll
+common_first u v =
+    all_first (common_divisor (u ∷ v ∷ [])) u (v ∷ []) (greatest_divides (unsigned_abs u) (u ∷ v ∷ []))
+
+-- a content is within each bound on the norm
+greatest_within : (n k : ℕ) (cs : List ℤ) → 1 ≤ k → n ≤ k → greatest_up_to n cs ≤ k
+greatest_within zero k cs low h = low
+greatest_within (suc n) k cs low h =
+    elim (list_all (λ c. unsigned_abs c % suc n == 0) cs) as (λ b. cond b (suc n) (greatest_up_to n cs) ≤ k) [
+      | true ↦ h
+      | false ↦ greatest_within n k cs low (omega arith)
+    ]
+
+pub content_within : (p : Polynomial) (k : ℕ) → 1 ≤ k → norm p ≤ k → content p ≤ k
+unfolding content numbers
+content_within [] k low h = low
+content_within (e ∷ p) k low h =
+    greatest_within (unsigned_abs e.1) k (numbers (e ∷ p)) low (omega (arith, norm-cons e p, h))

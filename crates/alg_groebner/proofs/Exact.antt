@@ -1,19 +1,16 @@
 -- What is divided by its content is exactly so.
-use Rattle.std.specs.Prelude.{◌≡◌, ◌≢◌, ℕ, [], ◌∷◌, ℤ, pos, ◌*ℤ◌, ◌≤ℤ◌}
+use Rattle.std.specs.Prelude.{◌≡◌, ◌≢◌, ℕ, [], ◌∷◌, ℤ, pos, ◌≤ℤ◌}
 use Rattle.std.proofs.Common.{refl, sym, ap, subst, ◌∙◌, arith}
 use Rattle.std.specs.Int.{◌∣◌}
 use Rattle.std.specs.Int.RustNames.{unsigned_abs}
 use Rattle.std.specs.Ordering.{nat_cmp}
-use Rattle.std.specs.Cmp.{nat_cmp_total}
-use Rattle.std.specs.FinMap.{nat_cmp-IsAntisymmetric}
 use Rattle.std.proofs.lemmas.Int.{ints}
 use Rattle.std.proofs.lemmas.List.Elements.{All-head, All-tail}
-use Rattle.alg_mono.specs.FiniteMaps.{Each, IsCanonical}
-use Rattle.alg_mono.specs.Numbers.{exponents, integers}
+use Rattle.alg_mono.specs.Numbers.{integers}
 use Rattle.alg_mono.specs.Polynomials.{IsPolynomial}
 use Rattle.alg_poly.specs.Divisors.{DividesEach, times_number}
 use Rattle.alg_mono.specs.Mono.{Monomial}
-use Rattle.alg_mono.specs.NumberedPolynomials.{Polynomial, row_of, multiple_of}
+use Rattle.alg_mono.specs.NumberedPolynomials.{Polynomial, multiple_of}
 use Rattle.alg_poly.proofs.Contents.{exact_quotient, IsPolynomial-from_times}
 use Rattle.alg_poly.proofs.Zeros.{multiple_is_times}
 use Rattle.alg_groebner.specs.Divisors.{content, over_number}

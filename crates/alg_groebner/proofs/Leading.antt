@@ -6,8 +6,8 @@ use Rattle.std.specs.Ordering.{nat_cmp}
 use Rattle.alg_mono.specs.FiniteMaps.{IsCanonical}
 use Rattle.alg_mono.specs.Mono.{Monomial}
 use Rattle.alg_mono.specs.Monomials.{Divides}
-use Rattle.alg_mono.specs.Numbers.{exponents, is_zero}
-use Rattle.alg_mono.specs.Polynomials.{IsPoly, MAX}
+use Rattle.alg_mono.specs.Numbers.{exponents, integers, is_zero}
+use Rattle.alg_mono.specs.Polynomials.{IsPoly, IsPolynomial, MAX}
 use Rattle.alg_mono.proofs.Canonical.{first}
 use Rattle.alg_mono.proofs.Norms.{norm-cons}
 use Rattle.alg_mono.specs.NumberedPolynomials.{Polynomial}
@@ -20,6 +20,12 @@ first_of_list x y xs e = grind arith
 
 none_first : {A : Type 0} (y : A) → slice_get [] 0 ≡ Some y → ⊥
 none_first y e = grind arith
+
+-- the leading coefficient of a polynomial that is not zero is not
+pub leading_some : (p : Polynomial) → IsPolynomial nat_cmp integers p → p ≢ [] → leading p ≢ pos 0
+leading_some [] s h z = absurd (h refl)
+leading_some (e ∷ p) s h z =
+    subst (λ (c : ℤ). T (not (is_zero c))) z (first (not (is_zero e.1)) _ s.canonical.no_none)
 
 -- the first term of a polynomial is its lead
 pub leading_small : (p : Polynomial) (x : Monomial × ℤ) → slice_get p 0 ≡ Some x → IsPoly nat_cmp p →

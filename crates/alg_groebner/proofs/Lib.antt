@@ -34,3 +34,9 @@ pub mod Simulation
 pub mod Running
 pub mod Answered
 pub mod Begun
+pub mod Bounded
+pub mod CertificateBounds
+pub mod Coefficients
+pub mod Limited
+pub mod Over
+pub mod Walked

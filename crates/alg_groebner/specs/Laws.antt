@@ -14,6 +14,7 @@ use Rattle.alg_groebner.specs.Rules.{Takes, IsInOrder}
 use Rattle.alg_groebner.specs.State.{State, End, Proved, Next, Goes}
 use Rattle.alg_groebner.specs.Runs.{Runs, Comes, first_state}
 use Rattle.alg_groebner.specs.Sound.{IsSound}
+use Rattle.alg_groebner.specs.Within.{IsCertWithin, IsOver}
 use Rattle.alg_groebner.specs.declared.remainder.Remainder.{Remainder}
 
 -- in each state one rule is taken, with one next state or one end
@@ -47,6 +48,13 @@ CertificatesAreGood =
     (hyps : List Polynomial) (g : Polynomial) (power limit : ℕ) → All (λ p. IsPolynomial nat_cmp integers p) hyps →
     length hyps < 2 ^ 31 → power ≤ 16 → limit ≤ 1000000 →
     (last : State) (r : ℕ) → Comes hyps g power limit last (Proved r) → IsGood hyps g (certificate last r)
+
+-- and where all polynomials are over n atoms, its numbers and monomials are within the limits, over these atoms
+abbrev pub CertificatesAreWithin : Type 0
+CertificatesAreWithin =
+    (n : ℕ) (hyps : List Polynomial) (g : Polynomial) (power limit : ℕ) → All (IsOver n) hyps → IsOver n g →
+    length hyps < 2 ^ 31 → power ≤ 16 → limit ≤ 1000000 →
+    (last : State) (r : ℕ) → Comes hyps g power limit last (Proved r) → IsCertWithin n (certificate last r)
 
 -- the lines of each run cite earlier lines, and the steps to each remainder cite lines
 abbrev pub RunsCite : Type 0

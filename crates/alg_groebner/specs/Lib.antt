@@ -18,3 +18,4 @@ pub mod Workable
 pub mod Bases
 pub mod Steps
 pub mod Verdicts
+pub mod Within

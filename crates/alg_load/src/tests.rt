@@ -118,3 +118,10 @@ fn the_goals_stand_behind_the_variables(rt: HostRuntime) -> Result<(), Fail> {
     );
     Ok(())
 }
+
+// It makes nothing else, so that a run whose memory is refused tells what the file takes.
+#[test]
+fn a_file_of_100_goals_is_made(rt: HostRuntime) -> Result<(), Fail> {
+    let _file = load_file(rt.alloc(), 100)?;
+    Ok(())
+}

@@ -1,7 +1,7 @@
 -- Powers add up, and the parts of a power are within its bounds.
 use Rattle.std.specs.Prelude.{◌≡◌, ℕ, zero, suc, ◌+◌, ◌*◌, ◌/◌, ◌%◌, ◌^◌, ◌<◌, ◌≤◌, [], ◌∷◌, pos}
-use Rattle.std.proofs.Common.{sym, ap, subst, ◌∙◌, arith}
-use Rattle.std.proofs.Math.Nat.{pow-zero, pow-suc, pow-succ', pow-le-pow_right, mul-le-mul_right}
+use Rattle.std.proofs.Common.{sym, ap, ◌∙◌, arith}
+use Rattle.std.proofs.Math.Nat.{pow-zero, pow-suc, pow-le-pow_right, mul-le-mul_right}
 use Rattle.std.proofs.lemmas.Nat.{mul-le, pow-add}
 use Rattle.std.specs.Ordering.{nat_cmp}
 use Rattle.std.specs.Cmp.{nat_cmp_total}
@@ -47,13 +47,10 @@ small_power zero (suc h) n k f = omega (arith, pow-suc zero h)
 small_power (suc a) h n k f =
     let grows : suc a ^ h ≤ suc a ^ n = pow-le-pow_right (omega arith) k in omega arith
 
--- n is twice its half, or one more
+-- the half of n
 module _ (n : ℕ) where
   pub twice_half : n % 2 ≡ 0 → n ≡ n / 2 + n / 2
   twice_half e = omega arith
-
-  pub after_twice_half : 0 < n % 2 → n ≡ suc (n / 2 + n / 2)
-  after_twice_half h = omega arith
 
   pub twice_half_within : n / 2 + n / 2 ≤ n
   twice_half_within = omega arith
@@ -95,29 +92,3 @@ module _ (p : Polynomial) (n : ℕ) (sound : IsPolynomial nat_cmp integers p) (n
 
   pub square_is : product_of (power_of p (n / 2)) (power_of p (n / 2)) ≡ power_of p (n / 2 + n / 2)
   square_is = sym (power-add p (n / 2) (n / 2) sound)
-
-  pub square_sound : IsPolynomial nat_cmp integers (product_of (power_of p (n / 2)) (power_of p (n / 2)))
-  square_sound =
-      subst (IsPolynomial nat_cmp integers) (sym square_is) (IsPolynomial-power_of p (n / 2 + n / 2) sound)
-
-  -- the polynomial times the square
-  module _ (odd : 0 < n % 2) where
-    pub last_norm : norm p * norm (product_of (power_of p (n / 2)) (power_of p (n / 2))) ≤ MAX
-    last_norm =
-        let k = n / 2 + n / 2 in
-        let e = after_twice_half n odd in
-        let small : norm (product_of (power_of p (n / 2)) (power_of p (n / 2))) ≤ norm p ^ k =
-        subst (λ q. norm q ≤ norm p ^ k) (sym square_is) (norm_of_power k) in
-        let bound = mul-le (norm p) _ (norm p) (norm p ^ k) (omega arith) small in
-        omega (arith, pow-succ' (norm p) k, ap (λ j. norm p ^ j) e)
-
-    pub last_degree : poly_degree p + poly_degree (product_of (power_of p (n / 2)) (power_of p (n / 2))) ≤ MAX_DEGREE
-    last_degree =
-        let k = n / 2 + n / 2 in
-        let e = after_twice_half n odd in
-        let small : poly_degree (product_of (power_of p (n / 2)) (power_of p (n / 2))) ≤ k * poly_degree p =
-        subst (λ q. poly_degree q ≤ k * poly_degree p) (sym square_is) (degree_of_power k) in
-        omega (arith, ap (λ j. j * poly_degree p) e)
-
-    pub last_is : product_of p (product_of (power_of p (n / 2)) (power_of p (n / 2))) ≡ power_of p n
-    last_is = ap (product_of p) square_is ∙ ap (power_of p) (sym (after_twice_half n odd))

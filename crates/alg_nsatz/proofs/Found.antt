@@ -1,5 +1,5 @@
 -- What is found for a task is the verdict on its goal.
-use Rattle.std.specs.Prelude.{◌≡◌, ◌<◌, ◌≤◌, ◌^◌, ℕ, Bool, true, false, cond, List, [], ◌∷◌, filter, map, length}
+use Rattle.std.specs.Prelude.{◌≡◌, ◌<◌, ◌≤◌, ◌^◌, ℕ, Bool, List, length}
 use Rattle.std.specs.declared.result.Result.TheVariants.{Ok, Err}
 use Rattle.std.proofs.Common.{ap, subst, ◌∙◌, arith, inl, inr}
 use Rattle.alg_terms.specs.declared.file.File.{File}
@@ -20,26 +20,16 @@ use Rattle.alg_reify.specs.declared.stop.Stop.{Stop}
 use Rattle.alg_reify.specs.Preparing.{is_equation, prepared_goal, prepared_hyps, used_difference}
 use Rattle.alg_reify.specs.Stops.{stop_of_polynomial}
 use Rattle.alg_reify.specs.Table.{table}
+use Rattle.alg_reify.proofs.UseTurns.{kept_length}
 use Rattle.alg_nsatz.specs.declared.decide.NsatzAnswer.{NsatzAnswer}
 use Rattle.alg_nsatz.specs.declared.preparing.Task.{Task}
 use Rattle.alg_nsatz.specs.Answers.{Answers, Stops, verdict_of}
 use Rattle.alg_nsatz.specs.Tasks.{IsPrepared, IsTaskBy, IsTask, StopsTask}
 use Rattle.alg_nsatz.specs.Verdict.{NsatzVerdict, IsVerdictBy, IsVerdictOf, SearchEnds, SearchComesTo}
 
--- ---- how long what is kept is
-pub kept_length : (p : Use → Bool) (f : Use → Polynomial) (uses : List Use) →
-    length (map f (filter p uses)) ≤ length uses
-kept_length p f [] = omega arith
-kept_length p f (u ∷ uses) = at (p u) (kept_length p f uses)
-  where
-    at : (b : Bool) → length (map f (filter p uses)) ≤ length uses →
-        length (map f (cond b (u ∷ filter p uses) (filter p uses))) ≤ length (u ∷ uses)
-    at true h = omega (arith, h)
-    at false h = omega (arith, h)
-
 -- the limits of a search
 pub record IsSmall (t : Task) : Type 0 where
-  pub few : length t.hyps.items < 2 ^ 31
+  pub few : length t.hyps < 2 ^ 31
   pub powers : t.power ≤ 16
   pub limited : t.limit ≤ 1000000
 
@@ -65,7 +55,7 @@ small file goal t is h = small_by file goal.equation goal.method t is.method h
 -- ---- the search of a task is that of its goal
 module _ (file : File) (e : Equation) (uses : List Use) (power limit : ℕ) (t : Task)
     (is : IsPrepared file e uses t) (same_power : t.power ≡ power) (same_limit : t.limit ≡ limit) where
-  moved : (last : State) (end : End) → Comes t.hyps.items t.goal t.power t.limit last end →
+  moved : (last : State) (end : End) → Comes t.hyps t.goal t.power t.limit last end →
       SearchEnds file e uses power limit last end
   moved last end comes = (
     is.fine,
@@ -75,7 +65,7 @@ module _ (file : File) (e : Equation) (uses : List Use) (power limit : ℕ) (t :
         (subst (λ hyps. Comes hyps t.goal t.power t.limit last end) is.hyps comes))),
   )
 
-  ended : (end : End) → ComesTo t.hyps.items t.goal t.power t.limit end → SearchComesTo file e uses power limit end
+  ended : (end : End) → ComesTo t.hyps t.goal t.power t.limit end → SearchComesTo file e uses power limit end
   ended end h = (h.0, moved h.0 end h.1)
 
   found_of : (a : NsatzAnswer) → Answers t (sort_at file e.sort).char0 (Ok a) →

@@ -1,13 +1,5 @@
-pub mod Bounds
-pub mod Factors
 pub mod Found
-pub mod Made
-pub mod NormsSome
 pub mod OneVerdict
+pub mod Within
 pub mod Tasks
-pub mod Turns
-pub mod ConstantsOf
-pub mod Primes
-pub mod CertificateValues
-pub mod TableValues
 pub mod Right

@@ -1,63 +1,39 @@
 -- A goal whose verdict by nsatz is Proved is right.
-use Rattle.std.specs.Prelude.{◌≡◌, ◌≢◌, ◌<◌, ◌^◌, ℕ, zero, suc, ℤ, Bool, true, false, not, cond, List, [], ◌∷◌, All, Contains, filter, map, length, slice_index_or}
+use Rattle.std.specs.Prelude.{◌≡◌, ◌<◌, ◌^◌, ℕ, ℤ, List, [], ◌∷◌, All, filter, map, length}
 use Rattle.std.specs.Cmp.{nat_cmp_total}
 use Rattle.std.specs.FinMap.{nat_cmp-IsAntisymmetric}
 use Rattle.std.specs.Ordering.{nat_cmp}
-use Rattle.std.proofs.Common.{sym, ap, subst, ◌∙◌, arith}
-use Rattle.std.proofs.lemmas.List.{get_or_default}
-use Rattle.std.proofs.lemmas.List.Elements.{All-nil, All-cons, All-head, All-tail, All-get_or}
-use Rattle.alg_terms.specs.declared.declarations.Sort.{Sort}
+use Rattle.std.proofs.Common.{sym, subst, arith}
+use Rattle.std.proofs.lemmas.List.Elements.{All-nil, All-cons}
 use Rattle.alg_terms.specs.declared.file.File.{File}
 use Rattle.alg_terms.specs.declared.goals.Equation.{Equation}
 use Rattle.alg_terms.specs.declared.goals.Method.{Method}
 use Rattle.alg_terms.specs.declared.goals.Method.TheVariants.{ByRing, ByField, ByNsatz}
 use Rattle.alg_terms.specs.declared.goals.Use.{Use}
 use Rattle.alg_terms.specs.declared.term.Atom.{Atom}
-use Rattle.alg_terms.specs.GoalRules.{IsEquation, IsGoal, IsHyp, IsNsatz, IsUse, MayBeBy}
-use Rattle.alg_terms.specs.Kinds.{IsDomain}
-use Rattle.alg_terms.specs.Members.{goal_at, hyp_at, no_goal, no_hyp, no_sort, sort_at, uses_of}
+use Rattle.alg_terms.specs.GoalRules.{IsGoal, IsNsatz, MayBeBy}
+use Rattle.alg_terms.specs.Members.{goal_at, hyp_at, no_goal, sort_at}
 use Rattle.alg_terms.specs.Valid.{IsValid}
 use Rattle.alg_universe.specs.declared.universe.Universe.{Ghosts}
-use Rattle.alg_universe.specs.Right.{Compare, ConstantHolds, Holds, UseHolds}
-use Rattle.alg_universe.specs.Value.{Fits, AreValues}
+use Rattle.alg_universe.specs.Right.{ConstantHolds}
 use Rattle.alg_mono.specs.FiniteMaps.{renamed}
-use Rattle.alg_mono.specs.NumberedPolynomials.{Polynomial}
 use Rattle.alg_mono.specs.Numbers.{integers}
 use Rattle.alg_mono.specs.Polynomials.{IsPolynomial}
 use Rattle.alg_mono.proofs.Canonical.{IsCanonical-collect}
 use Rattle.alg_mono.proofs.Closure.{IsPolynomial-rename}
 use Rattle.alg_mono.proofs.Numbers.{exponent_laws, integer_laws}
-use Rattle.alg_meaning.specs.PolynomialOf.{poly_of}
-use Rattle.alg_meaning.specs.Uses.{UsesHold}
-use Rattle.alg_meaning.proofs.AtomValues.{value_at}
-use Rattle.alg_meaning.proofs.Carriers.{opp_at, ring_at}
-use Rattle.alg_meaning.proofs.DeclaredKinds.{kind_domain}
-use Rattle.alg_meaning.proofs.Equal.{same_value}
-use Rattle.alg_meaning.proofs.Rings.{cancel}
-use Rattle.alg_meaning.proofs.Typed.{typed_left, typed_right, plain}
 use Rattle.alg_lines.specs.declared.cert.Cert.{Cert}
 use Rattle.alg_lines.specs.Accepting.{IsGood}
+use Rattle.alg_lines.specs.Constants.{constants}
 use Rattle.alg_groebner.specs.Laws.{CertificatesAreGood}
 use Rattle.alg_reify.specs.Numbered.{number_of, numbered_monomial}
-use Rattle.alg_reify.specs.Preparing.{difference, equation_differences, goal_difference, is_equation, is_nonzero, nonzero_differences, prepared_goal, prepared_hyps, used_difference}
-use Rattle.alg_reify.specs.Table.{equation_leaves, table, use_leaves}
-use Rattle.alg_reify.proofs.Held.{held_sides, held_uses}
-use Rattle.alg_reify.proofs.Uses.{use_leaves-at}
-use Rattle.alg_nsatz.specs.Certificates.{poly_at, IsZeroAt}
+use Rattle.alg_reify.specs.Preparing.{difference, is_equation, prepared_goal, prepared_hyps, used_difference}
+use Rattle.alg_reify.specs.Table.{table}
+use Rattle.alg_check.specs.Laws.{CertifiedIsRight}
+use Rattle.alg_check.specs.Certified.{IsCertifiedBy}
 use Rattle.alg_nsatz.specs.Laws.{ProvedIsRight}
 use Rattle.alg_nsatz.specs.Verdict.{NsatzVerdict, IsVerdictBy, IsVerdictOf}
-use Rattle.alg_nsatz.proofs.CertificateValues.{above, certificates_hold, first_of_product}
-use Rattle.alg_nsatz.proofs.Found.{kept_length}
-use Rattle.alg_nsatz.proofs.TableValues.{by_number, elements, difference_value, numbered_value}
-
--- a sort of characteristic 0 is one of the file
-declared : (sorts : List Sort) (s : ℕ) → (slice_index_or sorts s no_sort).char0 ≡ true → s < length sorts
-declared [] s h = absurd (apart h)
-  where
-    apart : false ≡ true → ⊥
-    apart e = cc
-declared (x ∷ sorts) zero h = omega arith
-declared (x ∷ sorts) (suc s) h = let rest = declared sorts s h in omega arith
+use Rattle.alg_reify.proofs.UseTurns.{kept_length}
 
 -- a numbered polynomial is one
 numbered_is : (atoms : List Atom) (file : File) (uses : List Use) →
@@ -69,118 +45,42 @@ numbered_is atoms file (w ∷ uses) =
     (λ m. IsCanonical-collect exponent_laws nat_cmp_total nat_cmp-IsAntisymmetric (renamed (number_of atoms) m))
     (difference w.path (hyp_at file w.hyp).equation)) (numbered_is atoms file uses)
 
-module _ {E : Type 0} (u : Ghosts E) (law : UsesHold u) (good : CertificatesAreGood) {file : File}
-    (valid : IsValid file) (fits : Fits u file) {v : List E} (values : AreValues u file v) (e : Equation)
-    (is_equation_of : IsEquation file e) (uses : List Use) (power limit : ℕ)
-    (is : IsNsatz file e uses power limit) where
-  domain : IsDomain (u.kind e.sort)
-  domain = kind_domain u fits e.sort is.domain
-
-  abbrev atoms : List Atom
-  atoms = table file e uses
-
-  abbrev x : ℕ → E
-  x = by_number u fits values e.sort domain atoms
-
-  abbrev Zero : Polynomial → Type 0
-  Zero p = IsZeroAt u e.sort x p
-
-  abbrev Some : Polynomial → Type 0
-  Some p = poly_at u e.sort x p ≢ u.zero e.sort
-
-  -- the difference of a use is zero, or not zero where it is a `<>`
-  use_value : (w : Use) → IsUse file e.sort w → UseHolds u file v w → All (Contains atoms) (use_leaves file w) →
-      Compare (is_nonzero file w) (poly_at u e.sort x (used_difference file atoms w)) (u.zero e.sort)
-  use_value w ok holds held =
-      let h = hyp_at file w.hyp in
-      let rules : IsHyp file h = All-get_or (IsHyp file) file.hyps w.hyp no_hyp ok.hyp valid.hyps in
-      let same : use_leaves file w ≡ equation_leaves w.path h.equation =
-      use_leaves-at file w h ok.hyp (get_or_default file.hyps w.hyp no_hyp h ok.hyp) in
-      let value = numbered_value u fits values e.sort domain atoms h.equation.sort w.path h.equation ok.path ok.sorts
-      (typed_left file h.equation rules.equation) (typed_right file h.equation rules.equation)
-      (subst (All (Contains atoms)) same held) in
-      subst (λ y. Compare (is_nonzero file w) y (u.zero e.sort)) (sym value)
-      (law file valid fits v values e.sort is.domain w ok holds)
-
-  put : (w : Use) (us : List Use) (b : Bool) →
-      Compare b (poly_at u e.sort x (used_difference file atoms w)) (u.zero e.sort) →
-      All Zero (equation_differences file atoms us) × All Some (nonzero_differences file atoms us) →
-      All Zero (map (used_difference file atoms) (cond (not b) (w ∷ filter (is_equation file) us)
-      (filter (is_equation file) us)))
-      × All Some (map (used_difference file atoms) (cond b (w ∷ filter (is_nonzero file) us)
-      (filter (is_nonzero file) us)))
-  put w us true h rest =
-      (rest.0, All-cons Some (used_difference file atoms w) (nonzero_differences file atoms us) h rest.1)
-  put w us false h rest =
-      (All-cons Zero (used_difference file atoms w) (equation_differences file atoms us) h rest.0, rest.1)
-
-  differences : (us : List Use) → All (IsUse file e.sort) us → All (UseHolds u file v) us →
-      All (λ w. All (Contains atoms) (use_leaves file w)) us →
-      All Zero (equation_differences file atoms us) × All Some (nonzero_differences file atoms us)
-  differences [] ok holds held = (All-nil Zero, All-nil Some)
-  differences (w ∷ us) ok holds held =
-      let Held : Use → Type 0 = λ w. All (Contains atoms) (use_leaves file w) in
-      put w us (is_nonzero file w) (use_value w (All-head (IsUse file e.sort) w us ok)
-      (All-head (UseHolds u file v) w us holds) (All-head Held w us held))
-      (differences us (All-tail (IsUse file e.sort) w us ok) (All-tail (UseHolds u file v) w us holds)
-      (All-tail Held w us held))
-
-  few : length (prepared_hyps file e uses) < 2 ^ 31
-  few =
-      let kept = kept_length (is_equation file) (used_difference file atoms) uses in
-      let most = is.few_uses in
-      omega (arith, kept, most)
-
-  -- where the goal's difference is zero, its sides are equal
-  sides : Zero (goal_difference file e uses) → Holds u file v e
-  sides z =
-      let p = value_at u fits values e.sort (poly_of e.left) in
-      let q = value_at u fits values e.sort (poly_of e.right) in
-      let none = sym (difference_value u fits values e.sort domain atoms [] e (held_sides file e uses))
-      ∙ above u e.sort domain x (elements u fits values e.sort domain atoms) (goal_difference file e uses) z in
-      let ring = ring_at u e.sort in
-      let same : p ≡ q = cancel ring p q (opp_at u e.sort q) (none ∙ sym (ring.opposite q)) in
-      let left = typed_left file e is_equation_of in
-      let right = typed_right file e is_equation_of in
-      sym (same_value u fits values e.sort e.left left (plain e.left is.divides_nowhere.0))
-      ∙ ap (λ y. y.0) same
-      ∙ same_value u fits values e.sort e.right right (plain e.right is.divides_nowhere.1)
-
-  proved_holds : (numbers : List ℤ) (cert : Cert) →
-      IsVerdictOf file e uses power limit (NsatzVerdict.Proved numbers cert) → All (UseHolds u file v) uses →
-      All (ConstantHolds u e.sort) numbers → Holds u file v e
-  proved_holds numbers cert proved holds constants =
+module _ (good : CertificatesAreGood) (file : File) (e : Equation) (numbers : List ℤ) (cert : Cert) where
+  -- the certificate of a search is good over what was prepared for it
+  certified : (uses : List Use) (power limit : ℕ) → IsNsatz file e uses power limit →
+      IsVerdictOf file e uses power limit (NsatzVerdict.Proved numbers cert) →
+      IsGood (prepared_hyps file e uses) (prepared_goal file e uses) cert
+  certified uses power limit is proved =
       let hyps = prepared_hyps file e uses in
       let goal = prepared_goal file e uses in
-      let char0 = (sort_at file e.sort).char0 in
-      let both = differences uses is.each_use holds (held_uses file e uses) in
+      let atoms = table file e uses in
+      let kept = kept_length (is_equation file) (used_difference file atoms) uses in
+      let most = is.few_uses in
+      let few : length hyps < 2 ^ 31 = omega (arith, kept, most) in
       let high = is.power_high in
       let far = is.limit_high in
-      let accepted : IsGood hyps goal cert =
       subst (IsGood hyps goal) (sym proved.certificate)
       (good hyps goal power limit (numbered_is atoms file (filter (is_equation file) uses)) few (omega (arith, high))
-      (omega (arith, far)) proved.last proved.least proved.ends.1) in
-      let each = elements u fits values e.sort domain atoms in
-      let none = certificates_hold u e.sort domain x each hyps goal cert accepted char0
-      (λ is0. fits.chars e.sort (declared file.sorts e.sort is0) is0) both.0
-      (subst (All (ConstantHolds u e.sort)) proved.constants constants) in
-      sides (first_of_product u e.sort domain x each (goal_difference file e uses)
-      (nonzero_differences file atoms uses) both.1 none)
+      (omega (arith, far)) proved.last proved.least proved.ends.1)
 
-module _ {E : Type 0} (u : Ghosts E) (law : UsesHold u) (good : CertificatesAreGood) {file : File}
-    (valid : IsValid file) (fits : Fits u file) {v : List E} (values : AreValues u file v) (e : Equation)
-    (is_equation_of : IsEquation file e) (numbers : List ℤ) (cert : Cert) where
-  by_method : (method : Method) → MayBeBy file e method →
-      IsVerdictBy file e method (NsatzVerdict.Proved numbers cert) → All (UseHolds u file v) (uses_of method) →
-      All (ConstantHolds u e.sort) numbers → Holds u file v e
-  by_method ByRing is proved holds constants = absurd proved
-  by_method ByField is proved holds constants = absurd proved
-  by_method (ByNsatz uses power limit) is proved holds constants =
-      proved_holds u law good valid fits values e is_equation_of uses power limit is numbers cert proved holds constants
+  certified_by : (method : Method) → MayBeBy file e method →
+      IsVerdictBy file e method (NsatzVerdict.Proved numbers cert) → IsCertifiedBy file e method cert
+  certified_by ByRing is proved = absurd proved
+  certified_by ByField is proved = absurd proved
+  certified_by (ByNsatz uses power limit) is proved = certified uses power limit is proved
 
-pub proved_is_right : {E : Type 0} (u : Ghosts E) → UsesHold u → CertificatesAreGood → ProvedIsRight u
-proved_is_right u law good file i valid there numbers cert verdict fits v values holds conditions constants =
+  -- and its constants are those of the verdict
+  constants_by : (method : Method) → IsVerdictBy file e method (NsatzVerdict.Proved numbers cert) →
+      numbers ≡ constants cert (sort_at file e.sort).char0
+  constants_by ByRing proved = absurd proved
+  constants_by ByField proved = absurd proved
+  constants_by (ByNsatz uses power limit) proved = proved.constants
+
+pub proved_is_right : {E : Type 0} (u : Ghosts E) → CertifiedIsRight u → CertificatesAreGood → ProvedIsRight u
+proved_is_right u right good file i valid there numbers cert verdict fits v values holds conditions none_zero =
     let goal = goal_at file i in
     let is : IsGoal file goal = valid.goals i no_goal there in
-    by_method u law good valid fits values goal.equation is.equation numbers cert goal.method is.method verdict holds
-    constants
+    let certified = certified_by good file goal.equation numbers cert goal.method is.method verdict in
+    let same = constants_by good file goal.equation numbers cert goal.method verdict in
+    right file i valid there cert certified fits v values holds conditions
+    (subst (All (ConstantHolds u goal.equation.sort)) same none_zero)

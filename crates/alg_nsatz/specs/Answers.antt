@@ -15,7 +15,7 @@ use Rattle.alg_nsatz.specs.Verdict.{NsatzVerdict, IsNsatzVerdict}
 
 -- the verdict that an answer is
 abbrev pub verdict_of : NsatzAnswer → NsatzVerdict
-verdict_of (NsatzAnswer.Proved constants cert) = NsatzVerdict.Proved constants.items cert
+verdict_of (NsatzAnswer.Proved constants cert) = NsatzVerdict.Proved constants cert
 verdict_of (NsatzAnswer.NoneUpTo r) = NsatzVerdict.NoneUpTo r
 verdict_of (NsatzAnswer.GaveUp n) = NsatzVerdict.GaveUp n
 
@@ -29,7 +29,7 @@ Stops file goal Stop.NoMemory = Unit {0}
 -- the search of a task decides so, and the constants are those of its certificate
 abbrev pub Answers : Task → Bool → Result NsatzAnswer Overrun → Type 0
 Answers t char0 (Ok (NsatzAnswer.Proved numbers cert)) =
-    Decides t.hyps.items t.goal t.power t.limit (Ok (found.Proved cert)) × (numbers.items ≡ constants cert char0)
-Answers t char0 (Ok (NsatzAnswer.NoneUpTo r)) = Decides t.hyps.items t.goal t.power t.limit (Ok (found.NoneUpTo r))
-Answers t char0 (Ok (NsatzAnswer.GaveUp n)) = Decides t.hyps.items t.goal t.power t.limit (Ok (found.GaveUp n))
-Answers t char0 (Err e) = Decides t.hyps.items t.goal t.power t.limit (Err e)
+    Decides t.hyps t.goal t.power t.limit (Ok (found.Proved cert)) × (numbers ≡ constants cert char0)
+Answers t char0 (Ok (NsatzAnswer.NoneUpTo r)) = Decides t.hyps t.goal t.power t.limit (Ok (found.NoneUpTo r))
+Answers t char0 (Ok (NsatzAnswer.GaveUp n)) = Decides t.hyps t.goal t.power t.limit (Ok (found.GaveUp n))
+Answers t char0 (Err e) = Decides t.hyps t.goal t.power t.limit (Err e)

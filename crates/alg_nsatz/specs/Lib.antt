@@ -4,4 +4,3 @@ pub mod Tasks
 pub mod Verdict
 pub mod Answers
 pub mod Laws
-pub mod Certificates

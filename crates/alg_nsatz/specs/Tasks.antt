@@ -1,5 +1,5 @@
 -- What is prepared for a search, and what stops it.
-use Rattle.std.specs.Prelude.{◌≡◌, ◌<◌, ◌≤◌, List, length}
+use Rattle.std.specs.Prelude.{◌≡◌, List, length}
 use Rattle.alg_terms.specs.declared.file.File.{File}
 use Rattle.alg_terms.specs.declared.goals.Equation.{Equation}
 use Rattle.alg_terms.specs.declared.goals.Goal.{Goal}
@@ -8,28 +8,17 @@ use Rattle.alg_terms.specs.declared.goals.Method.TheVariants.{ByRing, ByField, B
 use Rattle.alg_terms.specs.declared.goals.Use.{Use}
 use Rattle.alg_mono.specs.Outcomes.{Outcome}
 use Rattle.alg_reify.specs.declared.stop.Stop.{Stop}
-use Rattle.alg_reify.specs.Preparing.{prepared_goal, prepared_hyps, prepared_outcome}
-use Rattle.alg_reify.specs.Table.{MAX_ATOMS, table}
+use Rattle.alg_reify.specs.Preparing.{PreparesTo, StopsPreparing, prepared_goal, prepared_hyps}
+use Rattle.alg_reify.specs.Table.{table}
 use Rattle.alg_nsatz.specs.declared.preparing.Task.{Task}
 
 module _ (file : File) (e : Equation) (uses : List Use) where
-  -- there are not too many atoms, and making the polynomials comes to this
-  abbrev pub PreparesTo : Outcome → Type 0
-  PreparesTo outcome = (length (table file e uses) ≤ MAX_ATOMS) × (prepared_outcome file e uses ≡ outcome)
-
   -- the polynomials that are prepared for an equation, none of which breaks a rule, over so many atoms
   pub record IsPrepared (t : Task) : Type 0 where
-    pub fine : PreparesTo Outcome.Fine
+    pub fine : PreparesTo file e uses Outcome.Fine
     pub atoms : t.atoms ≡ length (table file e uses)
-    pub hyps : t.hyps.items ≡ prepared_hyps file e uses
+    pub hyps : t.hyps ≡ prepared_hyps file e uses
     pub goal : t.goal ≡ prepared_goal file e uses
-
-  -- there are too many atoms, or the first polynomial that breaks a rule breaks this one; want of memory says nothing
-  abbrev pub StopsPreparing : Stop → Type 0
-  StopsPreparing Stop.Atoms = MAX_ATOMS < length (table file e uses)
-  StopsPreparing Stop.Range = PreparesTo Outcome.Range
-  StopsPreparing Stop.Degree = PreparesTo Outcome.Degree
-  StopsPreparing Stop.NoMemory = Unit {0}
 
 -- the task of an equation by a method: its polynomials, with the method's power and limit
 abbrev pub IsTaskBy : File → Equation → Method → Task → Type 0

@@ -14,9 +14,8 @@ use Rattle.alg_groebner.specs.Pruning.{certificate}
 use Rattle.alg_groebner.specs.Runs.{Comes}
 use Rattle.alg_groebner.specs.State as state
 use Rattle.alg_groebner.specs.State.{State, End}
-use Rattle.alg_reify.specs.Preparing.{prepared_goal, prepared_hyps}
+use Rattle.alg_reify.specs.Preparing.{PreparesTo, prepared_goal, prepared_hyps}
 use Rattle.alg_reify.specs.Table.{MAX_ATOMS, table}
-use Rattle.alg_nsatz.specs.Tasks.{PreparesTo}
 
 -- there are too many atoms; a rule on norms or degrees is broken; a power of the goal is zero where the hypotheses are,
 -- under constants and by a certificate; none up to this power came to zero; or so many moves were made

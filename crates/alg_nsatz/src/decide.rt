@@ -12,7 +12,7 @@ use crate::{Cert, Stop};
 use alg_groebner::{Verdict, search};
 use alg_lines::constants_of;
 use alg_reify::Overrun;
-use alg_terms::File;
+use alg_terms::{File, Seq};
 use std::alloc::Global;
 
 /// The answer to a goal by nsatz that is not stopped.
@@ -20,7 +20,7 @@ use std::alloc::Global;
 pub enum NsatzAnswer {
     /// A power of the goal is zero where the hypotheses hold, by the certificate. The sides are equal
     /// wherever none of the constants, each a number of ones, is zero.
-    Proved { constants: Vec<i128>, cert: Cert },
+    Proved { constants: Seq<i128>, cert: Cert },
     /// The search ended, and no power of the goal up to this one came to zero.
     NoneUpTo(u32),
     /// This many counted moves were made, and another was due.
@@ -41,14 +41,14 @@ fn has_char0(file: &File, goal: u32) -> bool
 
 /// Searches a certificate for a task, and adds its constants.
 pub(crate) fn answer(alloc: Global, task: &Task, char0: bool) -> Result<NsatzAnswer, Overrun>
-    requires few { length task.now.hyps.items < 2 ^ 31 }
+    requires few { length task.now.hyps < 2 ^ 31 }
     requires powers { task.now.power ≤ 16 }
     requires limited { task.now.limit ≤ 1000000 }
     ensures { Answers task.now char0 result }
 {
-    match search(alloc, &task.hyps, &task.goal, task.power, task.limit)? {
+    match search(alloc, task.hyps.items(), &task.goal, task.power, task.limit)? {
         Verdict::Proved(cert) => {
-            let constants = constants_of(alloc, &cert, char0)?;
+            let constants = Seq::from_vec(constants_of(alloc, &cert, char0)?);
             Ok(NsatzAnswer::Proved { constants, cert })
         }
         Verdict::NoneUpTo(power) => Ok(NsatzAnswer::NoneUpTo(power)),

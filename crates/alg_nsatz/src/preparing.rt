@@ -7,15 +7,15 @@ ghost use Rattle.alg_terms.specs.Valid.{IsValid};
 ghost use Rattle.alg_mono.specs.Outcomes.{Outcome};
 ghost use Rattle.alg_mono.specs.Refusals.{Tells};
 ghost use Rattle.alg_reify.specs.Numbered.{numbered};
-ghost use Rattle.alg_reify.specs.Preparing.{IsByNsatz, difference, difference_outcome, uses_outcome, equation_differences, nonzero_differences};
+ghost use Rattle.alg_reify.specs.Preparing.{IsByNsatz, StopsPreparing, difference, difference_outcome, uses_outcome, equation_differences, nonzero_differences};
 ghost use Rattle.alg_reify.specs.Table.{equation_leaves, use_leaves};
-ghost use Rattle.alg_nsatz.specs.Tasks.{IsPrepared, IsTask, StopsPreparing, StopsTask};
+ghost use Rattle.alg_nsatz.specs.Tasks.{IsPrepared, IsTask, StopsTask};
 ghost use Rattle.alg_nsatz.specs.Puts.{PutsUse};
 
 use crate::product::product;
 use crate::{NoMemory, Poly, Stop};
 use alg_reify::{Atoms, Overrun, atoms_of, reify};
-use alg_terms::{Equation, File, Goal, Method, Use};
+use alg_terms::{Equation, File, Goal, Method, Seq, Use};
 use std::alloc::Global;
 
 /// What a search is given: whether some power of `goal` up to `power` is zero where all of `hyps` are,
@@ -24,7 +24,7 @@ use std::alloc::Global;
 #[derive(Debug, Drop)]
 pub struct Task {
     pub atoms: u32,
-    pub hyps: Vec<Poly>,
+    pub hyps: Seq<Poly>,
     pub goal: Poly,
     pub power: u32,
     pub limit: u32,
@@ -142,7 +142,7 @@ fn prepare_uses(
     let goal = product(alloc, first, &rest.nonzero)?;
     Ok(Task {
         atoms: table.len() as u32,
-        hyps: rest.equations,
+        hyps: Seq::from_vec(rest.equations),
         goal,
         power,
         limit,

@@ -1,11 +1,12 @@
 //! Products of polynomials, and tasks made by hand with what is found for them.
 
 use crate::decide::answer;
-use crate::laws::{certificates, one_nsatz_verdict, proved_is_right};
+use crate::laws::{certificates, one_nsatz_verdict, proved_is_right, proved_is_within};
 use crate::preparing::Task;
 use crate::product::product;
 use crate::{NsatzAnswer, Poly};
 use alg_reify::{Mono, Overrun};
+use alg_terms::Seq;
 use alg_universe::Ints;
 use std::alloc::Global;
 use std::process::Abort;
@@ -43,7 +44,7 @@ fn tell(answer: &NsatzAnswer) -> Told {
             cert.power,
             cert.lines.items().len(),
             cert.steps.items().len(),
-            constants.as_slice().first().copied(),
+            constants.items().first().copied(),
         ),
         NsatzAnswer::NoneUpTo(power) => Told::NoneUpTo(*power),
         NsatzAnswer::GaveUp(moves) => Told::GaveUp(*moves),
@@ -64,7 +65,7 @@ fn task(
     }
     Ok(Task {
         atoms: 2,
-        hyps: polys,
+        hyps: Seq::from_vec(polys),
         goal: poly(rt, alloc, goal)?,
         power,
         limit,
@@ -141,7 +142,7 @@ const TASKS: &[(&[Terms], Terms, u32, u32, bool, Told)] = &[
 fn a_certificate_has_the_constants_that_it_divides_by(rt: HostRuntime) -> Result<(), Fail> {
     for (hyps, goal, power, limit, char0, want) in TASKS {
         let task = task(&rt, rt.alloc(), hyps, goal, *power, *limit)?;
-        assert!(rt; task.hyps.len() < 9 && task.power <= 16 && task.limit <= 1000000);
+        assert!(rt; task.hyps.items().len() < 9 && task.power <= 16 && task.limit <= 1000000);
         match answer(rt.alloc(), &task, *char0) {
             Ok(found) => assert_eq!(rt; tell(&found), *want),
             Err(end) => assert_eq!(rt; end, Overrun::NoMemory),
@@ -153,6 +154,7 @@ fn a_certificate_has_the_constants_that_it_divides_by(rt: HostRuntime) -> Result
 #[test]
 fn the_laws_are_called() {
     one_nsatz_verdict();
+    proved_is_within();
     certificates::<Ints>();
     proved_is_right::<Ints>();
 }

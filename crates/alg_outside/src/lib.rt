@@ -5,12 +5,16 @@
 //! that count rose. [`read_whole`] reads all bytes up to a limit, and [`write_whole`] writes and
 //! flushes all bytes: each says what came through, or which count rose.
 //!
-//! Over memory stand [`MemSource`] and [`MemSink`], which tell their bytes and fail at given calls;
-//! over std's readers and writers [`StdSource`] and [`StdSink`], which tell no bytes.
+//! Over memory stand [`MemSource`] and [`MemSink`], which tell their bytes and fail at given calls,
+//! and [`QuietSource`] and [`QuietSink`], which never fail; over std's readers and writers
+//! [`StdSource`] and [`StdSink`], which tell no bytes.
 //! The words of the contracts are in `specs/Bytes.antt` and `specs/Faults.antt`.
 #![tactic(auto)]
 
+mod copying;
+pub mod laws;
 mod memory;
+mod quiet;
 mod source;
 mod standard;
 #[cfg(test)]
@@ -18,6 +22,7 @@ mod tests;
 mod whole;
 
 pub use memory::{MemSink, MemSource};
+pub use quiet::{QuietSink, QuietSource};
 pub use source::{Failed, Sink, Source};
 pub use standard::{StdSink, StdSource};
 pub use std::alloc::AllocError as NoMemory;

@@ -6,6 +6,7 @@ ghost use Rattle.alg_outside.specs.Faults.{HasCause, Rose};
 ghost use Rattle.alg_outside.specs.Memory.{SourceState, GivesPiece, SinkState, CountsCall, TakesPiece};
 
 use crate::NoMemory;
+use crate::copying::copy_front;
 use crate::source::{Failed, Sink, Source};
 use std::alloc::Global;
 use std::marker::Model;
@@ -74,9 +75,7 @@ impl Source for MemSource {
             self.faults = self.faults.saturating_add(1);
             return Err(Failed);
         }
-        let rest = &self.bytes[self.at..];
-        let count = self.piece.min(rest.len()).min(into.len());
-        into[..count].copy_from_slice(&rest[..count]);
+        let count = copy_front(&self.bytes[self.at..], self.piece, into);
         self.at += count;
         Ok(count)
     }

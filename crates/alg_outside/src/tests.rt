@@ -1,7 +1,9 @@
 //! Whole reads and writes, over memory and over std's readers and writers in memory.
 
+use crate::laws::quiet_counts_never_rise;
 use crate::{
-    Failed, MemSink, MemSource, ReadEnd, Sink, Source, StdSink, StdSource, read_whole, write_whole,
+    Failed, MemSink, MemSource, QuietSink, QuietSource, ReadEnd, Sink, Source, StdSink, StdSource,
+    read_whole, write_whole,
 };
 use std::alloc::Global;
 use std::collections::VecDeque;
@@ -185,5 +187,22 @@ fn a_writers_short_writes_and_errors_are_told(rt: HostRuntime) -> Result<(), Fai
         Ok(0),
         "nothing is taken of nothing"
     );
+    Ok(())
+}
+
+#[test]
+fn the_quiet_ones_never_fail(rt: HostRuntime) -> Result<(), Fail> {
+    quiet_counts_never_rise();
+    let bytes = vec![in rt.alloc(); 7u8; 9000]?;
+    let mut source = QuietSource::new(bytes.to_vec(rt.alloc())?);
+    assert_eq!(rt; read_whole(rt.alloc(), &mut source, 9000)?, bytes);
+    assert_eq!(rt; source.read(&mut [0]), Ok(0), "nothing is left");
+    let mut sink = QuietSink::new();
+    assert_eq!(rt;
+        sink.write(bytes.as_slice()),
+        Ok(9000),
+        "a piece is taken whole"
+    );
+    assert_eq!(rt; write_whole(&mut sink, bytes.as_slice()), Ok(()));
     Ok(())
 }

@@ -65,7 +65,8 @@ pub fn read_whole<S: Source>(alloc: Global, source: &mut S, max: usize) -> Resul
 }
 
 /// Writes all bytes and then flushes them. Each write is offered all that is left, and each turn
-/// takes a byte or ends. It takes no memory.
+/// takes a byte or ends. It takes no memory, and over a [`QuietSink`](crate::QuietSink) it succeeds,
+/// since the count of that one does not rise.
 pub fn write_whole<K: Sink>(sink: &mut K, bytes: &[u8]) -> Result<(), Failed>
     ensures count { K.faults sink.old ≤ K.faults sink.new }
 

@@ -8,3 +8,5 @@ pub mod Differences
 pub mod DifferenceTurns
 pub mod Contents
 pub mod Cancelled
+pub mod Powers
+pub mod Moves

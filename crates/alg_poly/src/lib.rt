@@ -12,6 +12,7 @@
 mod content;
 mod difference;
 mod form;
+mod merge;
 mod poly;
 mod product;
 mod sum;

@@ -11,9 +11,10 @@ ghost use Rattle.alg_mono.specs.Refusals.{Tells};
 ghost use Rattle.alg_mono.specs.NumberedPolynomials.{row_of, product_of, power_of, multiple_of};
 
 use crate::NoMemory;
+use crate::merge::merge_moved;
 use crate::poly::{GREATEST_DEGREE, GREATEST_NORM, Poly};
 use crate::terms::norm_of;
-use alg_mono::terms::{Term, merge};
+use alg_mono::terms::Term;
 use alg_mono::{Mono, MonoEnd, Overrun};
 use std::alloc::Global;
 
@@ -72,10 +73,11 @@ fn multiply(alloc: Global, a: &[Term], b: &[Term]) -> Result<Vec<Term>, NoMemory
     let (front, back) = a.split_at(a.len() / 2);
     let front = multiply(alloc, front, b)?;
     let back = multiply(alloc, back, b)?;
-    merge(alloc, &front, &back)
+    merge_moved(alloc, front, back)
 }
 
-/// The power of a list of terms, by squaring.
+/// The power of a list of terms: of one term by squaring, else by products with the list. Of the
+/// others no more than 126 factors keep the limit on norms.
 fn raise(alloc: Global, terms: &[Term], n: u32) -> Result<Vec<Term>, NoMemory>
     requires sound { IsPolynomial nat_cmp integers terms.now }
     requires norms { norm terms.now ^ n ≤ MAX }
@@ -87,19 +89,19 @@ fn raise(alloc: Global, terms: &[Term], n: u32) -> Result<Vec<Term>, NoMemory>
         one.push((Mono::one(alloc), 1))?;
         return Ok(one);
     }
-    let half = raise(alloc, terms, n / 2)?;
-    let square = multiply(alloc, &half, &half)?;
-    if n % 2 == 0 {
-        return Ok(square);
+    if terms.len() > 1 || n % 2 == 1 {
+        let rest = raise(alloc, terms, n - 1)?;
+        return multiply(alloc, terms, &rest);
     }
-    multiply(alloc, terms, &square)
+    let half = raise(alloc, terms, n / 2)?;
+    multiply(alloc, &half, &half)
 }
 
 impl Poly {
     /// The product. Its cost is one product of monomials and one of coefficients for each pair of
-    /// terms, and a number of comparisons and copies that is at most the number of pairs times the
-    /// logarithm of the number of terms of `self`. Beside the result it holds the products of two
-    /// halves of `self` with `other`.
+    /// terms, and a number of comparisons that is at most the number of pairs times the logarithm
+    /// of the number of terms of `self`, so it is less where `self` is the shorter. Beside the
+    /// result it holds the products of two halves of `self` with `other`.
     ///
     /// Where neither is 0, `Range` exactly where the product of the norms is over 2^127 - 1, and
     /// else `Degree` exactly where the degrees add up to more than 1,000.
@@ -123,7 +125,8 @@ impl Poly {
         Ok(Poly { terms })
     }
 
-    /// The power, by at most two products for each binary digit of `n`. The power 0 is 1.
+    /// The power, by `n` products with `self`, and where that has one term by at most two products
+    /// for each binary digit of `n`. The power 0 is 1.
     ///
     /// Where `self` is not 0, `Range` exactly where the norm to the `n` is over 2^127 - 1, and else
     /// `Degree` exactly where `n` times the degree is over 1,000.

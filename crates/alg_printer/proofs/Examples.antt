@@ -14,7 +14,7 @@ use Rattle.alg_terms.specs.Sorts.{EachNodeAt}
 use Rattle.alg_terms.specs.TermRules.{IsTerm}
 use Rattle.alg_terms.specs.Valid.{IsValid}
 use Rattle.alg_terms.proofs.SmallFile.{small_is_valid}
-use Rattle.alg_printer.specs.Monomials.{goal_atoms}
+use Rattle.alg_reify.specs.Table.{goal_atoms}
 use Rattle.alg_printer.specs.Printable.{ArePrintable, IsPrintable, IsNumeral, IsMonomialOver, IsLineOver, IsStepOver}
 use Rattle.alg_printer.specs.Text.{answer_at}
 use Rattle.alg_printer.specs.Examples.{inverse_answer, image_answer, one_line, one_step, small_answers, zero_answers}

@@ -13,9 +13,9 @@ use Rattle.alg_terms.specs.GoalRules.{IsGoal, IsHyp, IsUse, IsEquation, MayBeBy}
 use Rattle.alg_terms.specs.Members.{hyp_at, no_hyp, goal_at, no_goal, uses_of}
 use Rattle.alg_terms.specs.Valid.{IsValid}
 use Rattle.alg_terms.specs.Lists.{each_once}
-use Rattle.alg_reify.specs.Table.{equation_leaves, use_leaves, table, MAX_ATOMS, atom_eq}
+use Rattle.alg_reify.specs.Table.{goal_atoms, equation_leaves, use_leaves, table, MAX_ATOMS, atom_eq}
 use Rattle.alg_reify.proofs.Uses.{use_leaves-at}
-use Rattle.alg_printer.specs.Monomials.{goal_atoms, IsAtomOf}
+use Rattle.alg_printer.specs.Monomials.{IsAtomOf}
 use Rattle.alg_printer.proofs.Leaves.{AreAtoms, AreNamed, equation_has}
 
 named : (file : File) (e : Equation) → IsEquation file e → AreNamed file e

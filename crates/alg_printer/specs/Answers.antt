@@ -1,7 +1,8 @@
 -- The text of an answer, each line after two spaces.
-use Rattle.std.specs.Prelude.{ℕ, ℤ, List, [], ◌++◌, codes, decimal, Option, None, Some}
+use Rattle.std.specs.Prelude.{ℕ, ℤ, pos, List, [], ◌∷◌, ◌++◌, codes, decimal, if◌then◌else◌, Option, None, Some}
 use Rattle.std.specs.Fmt.{signed_decimal}
 use Rattle.std.specs.List.{flat_map}
+use Rattle.std.specs.Ordering.{int_eq}
 use Rattle.alg_lines.specs.declared.answer.Answer.{Answer}
 use Rattle.alg_lines.specs.declared.answer.Answer.TheVariants.{Proved, Certified, No, ZeroDenominator, NoneUpTo, GaveUp, Atoms, Range, Degree}
 use Rattle.alg_lines.specs.declared.cert.Cert.{Cert}
@@ -12,7 +13,8 @@ use Rattle.alg_terms.specs.declared.file.File.{File}
 use Rattle.alg_terms.specs.declared.goals.Goal.{Goal}
 use Rattle.alg_terms.specs.declared.term.Atom.{Atom}
 use Rattle.alg_terms.specs.declared.term.Term.{Term}
-use Rattle.alg_printer.specs.Monomials.{goal_atoms, mono_text}
+use Rattle.alg_printer.specs.Monomials.{factors_text, mono_text}
+use Rattle.alg_reify.specs.Table.{goal_atoms}
 use Rattle.alg_printer.specs.Names.{listed}
 use Rattle.alg_printer.specs.Terms.{term_text}
 
@@ -25,13 +27,22 @@ conditions_text file conditions =
 abbrev pub constants_text : List ℤ → List ℕ
 constants_text constants = listed (codes " if ") (codes ", ") (λ c. signed_decimal c ++ codes " <> 0") constants
 
+-- a monomial of a combination with the comma behind it; the monomial 1 is left out
+abbrev pub scale_text : File → List Atom → Monomial → List ℕ
+scale_text file atoms [] = []
+scale_text file atoms (e ∷ m) = factors_text file atoms (e ∷ m) ++ codes ", "
+
 -- a multiple of a line: the factor, the monomial, the line's number
 abbrev pub multiple_text : File → List Atom → ℤ → Monomial → ℕ → List ℕ
-multiple_text file atoms a m i = signed_decimal a ++ codes ", " ++ mono_text file atoms m ++ codes ", " ++ decimal i
+multiple_text file atoms a m i = signed_decimal a ++ codes ", " ++ scale_text file atoms m ++ decimal i
 
--- the divisor of a combination, at the end of its line
+-- the divisor of a combination; the divisor 1 is left out
+abbrev pub over_text : ℤ → List ℕ
+over_text d = if int_eq d (pos 1) then [] else codes " over " ++ signed_decimal d
+
+-- the divisor, at the end of its line
 abbrev pub divisor_text : ℤ → List ℕ
-divisor_text d = codes " over " ++ signed_decimal d ++ codes ".\n"
+divisor_text d = over_text d ++ codes ".\n"
 
 -- a line of a certificate
 abbrev pub line_text : File → List Atom → Line → List ℕ
@@ -47,9 +58,10 @@ step_text file atoms step =
 
 -- the power of a certificate, with the constants
 abbrev pub power_text : ℕ → List ℤ → List ℕ
-power_text power constants = codes "  proved power " ++ decimal power ++ constants_text constants ++ codes ".\n"
+power_text power constants =
+    codes "  proved version 2 power " ++ decimal power ++ constants_text constants ++ codes ".\n"
 
--- the power, then the lines, then the steps
+-- a certificate in format 2: the power, then the lines, then the steps
 abbrev pub cert_text : File → List Atom → List ℤ → Cert → List ℕ
 cert_text file atoms constants cert =
     power_text cert.power constants ++ flat_map (line_text file atoms) cert.lines

@@ -1,8 +1,10 @@
 pub mod Answers
 pub mod Examples
+pub mod FormatOne
 pub mod Monomials
 pub mod Names
 pub mod Printable
+pub mod Reports
 pub mod Statements
 pub mod Terms
 pub mod Text

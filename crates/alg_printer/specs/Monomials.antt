@@ -1,21 +1,13 @@
 -- The text of a monomial over a goal's atoms.
-use Rattle.std.specs.Prelude.{◌<◌, ℕ, List, [], ◌∷◌, ◌++◌, codes, decimal, length, All, nat_lt, nat_le, if◌then◌else◌, slice_index_or}
+use Rattle.std.specs.Prelude.{◌<◌, ℕ, List, [], ◌∷◌, ◌++◌, codes, decimal, length, All, nat_lt, if◌then◌else◌, slice_index_or}
 use Rattle.alg_mono.specs.Mono.{Monomial}
 use Rattle.alg_terms.specs.declared.file.File.{File}
-use Rattle.alg_terms.specs.declared.goals.Goal.{Goal}
 use Rattle.alg_terms.specs.declared.term.Atom.{Atom}
-use Rattle.alg_terms.specs.Members.{uses_of}
-use Rattle.alg_reify.specs.Table.{table, MAX_ATOMS}
 use Rattle.alg_printer.specs.Names.{var_name, under, listed, IsPathOf}
 
 -- an atom: its path over its variable
 abbrev pub atom_text : File → Atom → List ℕ
 atom_text file atom = under file atom.path (var_name file atom.var)
-
--- the atoms that the monomials of a goal's answer may have: its table, and none where that would have too many
-abbrev pub goal_atoms : File → Goal → List Atom
-goal_atoms file goal =
-    let atoms = table file goal.equation (uses_of goal.method) in if nat_le (length atoms) MAX_ATOMS then atoms else []
 
 -- the atom that stands for one that is not there
 abbrev pub no_atom : Atom

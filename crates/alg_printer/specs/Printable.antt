@@ -16,7 +16,8 @@ use Rattle.alg_terms.specs.Limits.{MAX_LITERAL}
 use Rattle.alg_terms.specs.declared.term.Atom.{Atom}
 use Rattle.alg_terms.specs.AnswerRules.{IsAnswerTerm}
 use Rattle.alg_terms.specs.Members.{goal_at}
-use Rattle.alg_printer.specs.Monomials.{goal_atoms, IsOverAtoms}
+use Rattle.alg_printer.specs.Monomials.{IsOverAtoms}
+use Rattle.alg_reify.specs.Table.{goal_atoms}
 use Rattle.alg_printer.specs.Text.{answer_at}
 
 -- the forms of answers that belong to a method

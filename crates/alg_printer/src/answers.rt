@@ -1,20 +1,21 @@
 //! The text of an answer.
 
 ghost use Rattle.std.specs.Prelude.{◌≡◌, ◌<◌, ◌++◌, [], length, All, codes, decimal, unwrap_or, OnOk};
-ghost use Rattle.std.specs.List.{flat_map};
 ghost use Rattle.alg_terms.specs.Members.{uses_of};
-ghost use Rattle.alg_printer.specs.Answers.{conditions_text, constants_text, multiple_text, divisor_text, line_text, step_text, power_text, cert_text, no_text, answer_text};
-ghost use Rattle.alg_printer.specs.Monomials.{goal_atoms, IsAtomOf, IsOverAtoms};
-ghost use Rattle.alg_printer.specs.Printable.{IsLineOver, IsStepOver, IsCertOver, HasParts};
+ghost use Rattle.alg_printer.specs.Answers.{conditions_text, no_text, answer_text};
+ghost use Rattle.alg_printer.specs.Monomials.{IsAtomOf, IsOverAtoms};
+ghost use Rattle.alg_reify.specs.Table.{goal_atoms};
+ghost use Rattle.alg_printer.specs.Printable.{HasParts};
 ghost use Rattle.alg_printer.specs.Terms.{IsNamed};
 
 use crate::NoMemory;
-use crate::monomials::{goal_table, put_monomial};
+use crate::certificates::put_cert;
+use crate::monomials::put_monomial;
 use crate::terms::put_term;
 use crate::text::Text;
-use alg_lines::{Answer, Cert, GoalStep, Line};
+use alg_lines::Answer;
 use alg_mono::Mono;
-use alg_reify::Atoms;
+use alg_reify::{Atoms, goal_table};
 use alg_terms::{File, Goal, Term};
 use std::alloc::Global;
 
@@ -31,152 +32,6 @@ fn put_conditions(text: &mut Text, file: &File, conditions: &[Term]) -> Result<(
         front = b", ";
     }
     Ok(())
-}
-
-/// Constants that are not zero, if there are any.
-fn put_constants(text: &mut Text, constants: &[i128]) -> Result<(), NoMemory>
-    ensures { OnOk result (text.new ≡ text.old ++ constants_text constants.now) }
-{
-    let mut front: &[u8] = b" if ";
-    for constant in constants {
-        text.put(front)?;
-        text.integer(*constant)?;
-        text.put(b" <> 0")?;
-        front = b", ";
-    }
-    Ok(())
-}
-
-/// A multiple of a line.
-fn put_multiple(
-    text: &mut Text,
-    file: &File,
-    atoms: &Option<Atoms>,
-    factor: i128,
-    mono: &Mono,
-    line: u32,
-) -> Result<(), NoMemory>
-    requires known { All (IsAtomOf file.now) (unwrap_or atoms.now []) }
-    requires over { IsOverAtoms (unwrap_or atoms.now []) mono.now }
-    ensures { OnOk result (text.new
-        ≡ text.old ++ multiple_text file.now (unwrap_or atoms.now []) factor mono.now line) }
-{
-    text.integer(factor)?;
-    text.put(b", ")?;
-    put_monomial(text, file, atoms, mono)?;
-    text.put(b", ")?;
-    text.natural(line)
-}
-
-/// The divisor of a combination, at the end of its line.
-fn put_divisor(text: &mut Text, divisor: i128) -> Result<(), NoMemory>
-    ensures { OnOk result (text.new ≡ text.old ++ divisor_text divisor) }
-{
-    text.put(b" over ")?;
-    text.integer(divisor)?;
-    text.put(b".\n")
-}
-
-/// A line of a certificate.
-fn put_line(
-    text: &mut Text,
-    file: &File,
-    atoms: &Option<Atoms>,
-    line: &Line,
-) -> Result<(), NoMemory>
-    requires known { All (IsAtomOf file.now) (unwrap_or atoms.now []) }
-    requires over { IsLineOver (unwrap_or atoms.now []) line.now }
-    ensures { OnOk result (text.new
-        ≡ text.old ++ line_text file.now (unwrap_or atoms.now []) line.now) }
-{
-    text.put(b"  line ")?;
-    put_multiple(text, file, atoms, line.a, &line.m, line.i)?;
-    text.put(b" minus ")?;
-    put_multiple(text, file, atoms, line.b, &line.n, line.j)?;
-    put_divisor(text, line.d)
-}
-
-/// A step of a certificate.
-fn put_step(
-    text: &mut Text,
-    file: &File,
-    atoms: &Option<Atoms>,
-    step: &GoalStep,
-) -> Result<(), NoMemory>
-    requires known { All (IsAtomOf file.now) (unwrap_or atoms.now []) }
-    requires over { IsStepOver (unwrap_or atoms.now []) step.now }
-    ensures { OnOk result (text.new
-        ≡ text.old ++ step_text file.now (unwrap_or atoms.now []) step.now) }
-{
-    text.put(b"  step ")?;
-    text.integer(step.a)?;
-    text.put(b" minus ")?;
-    put_multiple(text, file, atoms, step.b, &step.n, step.j)?;
-    put_divisor(text, step.d)
-}
-
-/// The lines of a certificate.
-fn put_lines(
-    text: &mut Text,
-    file: &File,
-    atoms: &Option<Atoms>,
-    lines: &[Line],
-) -> Result<(), NoMemory>
-    requires known { All (IsAtomOf file.now) (unwrap_or atoms.now []) }
-    requires over { All (IsLineOver (unwrap_or atoms.now [])) lines.now }
-    ensures { OnOk result (text.new
-        ≡ text.old ++ flat_map (line_text file.now (unwrap_or atoms.now [])) lines.now) }
-{
-    for line in lines {
-        put_line(text, file, atoms, line)?;
-    }
-    Ok(())
-}
-
-/// The steps of a certificate.
-fn put_steps(
-    text: &mut Text,
-    file: &File,
-    atoms: &Option<Atoms>,
-    steps: &[GoalStep],
-) -> Result<(), NoMemory>
-    requires known { All (IsAtomOf file.now) (unwrap_or atoms.now []) }
-    requires over { All (IsStepOver (unwrap_or atoms.now [])) steps.now }
-    ensures { OnOk result (text.new
-        ≡ text.old ++ flat_map (step_text file.now (unwrap_or atoms.now [])) steps.now) }
-{
-    for step in steps {
-        put_step(text, file, atoms, step)?;
-    }
-    Ok(())
-}
-
-/// The power of a certificate, with the constants.
-fn put_power(text: &mut Text, power: u32, constants: &[i128]) -> Result<(), NoMemory>
-    ensures { OnOk result (text.new ≡ text.old ++ power_text power constants.now) }
-{
-    text.put(b"  proved power ")?;
-    text.natural(power)?;
-    put_constants(text, constants)?;
-    text.put(b".\n")
-}
-
-/// A certificate with its constants.
-fn put_cert(
-    text: &mut Text,
-    file: &File,
-    atoms: &Option<Atoms>,
-    constants: &[i128],
-    cert: &Cert,
-) -> Result<(), NoMemory>
-    requires known { All (IsAtomOf file.now) (unwrap_or atoms.now []) }
-    requires over { IsCertOver (unwrap_or atoms.now []) cert.now }
-    ensures { OnOk result (text.new
-        ≡ text.old ++ cert_text file.now (unwrap_or atoms.now []) constants.now cert.now) }
-{
-    put_power(text, cert.power, constants)?;
-    put_lines(text, file, atoms, cert.lines.items())?;
-    put_steps(text, file, atoms, cert.steps.items())
 }
 
 /// The greatest monomial where the sides of a goal differ, and its coefficients.

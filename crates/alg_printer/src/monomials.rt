@@ -1,38 +1,14 @@
 //! The text of a monomial over a goal's atoms.
 
-ghost use Rattle.std.specs.Prelude.{◌≡◌, ◌<◌, ◌++◌, [], length, All, unwrap_or, IfOk, OnOk};
-ghost use Rattle.alg_terms.specs.Members.{uses_of};
-ghost use Rattle.alg_printer.specs.Monomials.{atom_text, goal_atoms, exponent_text, factors_text, mono_text, atom_at, IsAtomOf, IsOverAtoms};
+ghost use Rattle.std.specs.Prelude.{◌≡◌, ◌<◌, ◌++◌, [], length, All, unwrap_or, OnOk};
+ghost use Rattle.alg_printer.specs.Monomials.{atom_text, exponent_text, factors_text, mono_text, atom_at, IsAtomOf, IsOverAtoms};
 
 use crate::NoMemory;
 use crate::names::put_under;
 use crate::text::Text;
 use alg_mono::Mono;
-use alg_reify::{Atoms, AtomsEnd, atoms_of};
-use alg_terms::{Atom, File, Goal, Method, Use};
-use std::alloc::{AllocError, Global};
-
-/// The uses of a method.
-fn uses_of(method: &Method) -> &[Use]
-    ensures { result.now ≡ uses_of method.now }
-{
-    match method {
-        Method::ByRing | Method::ByField => &[],
-        Method::ByNsatz { uses, .. } => uses.items(),
-    }
-}
-
-/// The atoms of a goal's table, and None where it would have more than 1,000.
-pub(crate) fn goal_table(alloc: Global, file: &File, goal: &Goal) -> Result<Option<Atoms>, NoMemory>
-    requires { All (λ u. u.hyp < length file.now.hyps) (uses_of goal.now.method) }
-    ensures { IfOk result (λ atoms. unwrap_or atoms [] ≡ goal_atoms file.now goal.now) }
-{
-    match atoms_of(alloc, file, &goal.equation, uses_of(&goal.method)) {
-        Ok(atoms) => Ok(Some(atoms)),
-        Err(AtomsEnd::TooMany) => Ok(None),
-        Err(AtomsEnd::NoMemory) => Err(AllocError),
-    }
-}
+use alg_reify::Atoms;
+use alg_terms::{Atom, File};
 
 /// An atom: its path over its variable.
 pub(crate) fn put_atom(text: &mut Text, file: &File, atom: &Atom) -> Result<(), NoMemory>
@@ -89,7 +65,7 @@ pub(crate) fn put_monomial(
 }
 
 /// Factors with `*` between.
-fn put_factors(
+pub(crate) fn put_factors(
     text: &mut Text,
     file: &File,
     atoms: &Option<Atoms>,

@@ -1,4 +1,5 @@
 //! Terms, atoms and a whole file in print.
 
 mod files;
+mod reports;
 mod terms;

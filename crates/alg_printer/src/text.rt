@@ -53,6 +53,13 @@ impl Text {
         self.put(buffer.format(value).as_bytes())
     }
 
+    pub(crate) fn index(&mut self, value: usize) -> Result<(), NoMemory>
+        ensures { OnOk result (self.new ≡ self.old ++ decimal value) }
+    {
+        let mut buffer = Buffer::new();
+        self.put(buffer.format(value).as_bytes())
+    }
+
     pub(crate) fn integer(&mut self, value: i128) -> Result<(), NoMemory>
         ensures { OnOk result (self.new ≡ self.old ++ signed_decimal value) }
     {

@@ -1,17 +1,15 @@
 -- One answer for each goal, in a loop over the goals.
-use Rattle.std.specs.Prelude.{◌≡◌, ◌<◌, ◌≤◌, ◌+◌, ℕ, zero, suc, List, [], ◌∷◌, ◌++◌, length, take, map, All, Some, None, IfSome, slice_index_or}
+use Rattle.std.specs.Prelude.{◌≡◌, ◌<◌, ◌≤◌, ◌+◌, ℕ, zero, suc, List, [], ◌∷◌, ◌++◌, length, take, map, Some, None, IfSome, slice_index_or}
 use Rattle.std.specs.List.{AllZip}
-use Rattle.std.proofs.Common.{sym, ap, subst, ◌∙◌, arith}
+use Rattle.std.proofs.Common.{sym, subst, ◌∙◌, arith}
 use Rattle.std.proofs.lemmas.List.{length-map, get_or-map, take_more, take_all}
 use Rattle.std.proofs.lemmas.Slice.Zip.{AllZip-long, all_zipped_more}
-use Rattle.std.proofs.lemmas.List.Elements.{All-get_or}
 use Rattle.alg_lines.specs.declared.answer.Answer.{Answer}
 use Rattle.alg_lines.specs.declared.answer.Answer.TheVariants.{Atoms}
 use Rattle.alg_printer.specs.Printable.{ArePrintable, IsPrintable}
 use Rattle.alg_prover.specs.Answers.{IsAnswer, AreAnswers}
 use Rattle.alg_terms.specs.declared.file.File.{File}
 use Rattle.alg_terms.specs.declared.goals.Goal.{Goal}
-use Rattle.alg_terms.specs.GoalRules.{IsGoal}
 use Rattle.alg_terms.specs.Members.{goal_at, no_goal}
 
 -- the answer to a goal, which can be printed below it
@@ -51,19 +49,11 @@ firsts P Q (x ∷ xs) [] h = absurd h
 firsts P Q (x ∷ xs) (y ∷ ys) h = (h.0.0, firsts P Q xs ys h.1)
 
 -- an answer to the next goal
-pub next_answered : (file : File) (goals : List Goal) (i : ℕ) (goal : Goal) (answers : List Answer) (answer : Answer) →
-    goals ≡ file.goals → i < length goals → goal ≡ slice_index_or goals i goal → AreAnswered file i answers →
-    IsAnswered file goal answer → AreAnswered file (i + 1) (answers ++ answer ∷ [])
-next_answered file goals i goal answers answer same within is so_far one =
-    more (IsAnswered file) file.goals answers i goal answer (subst (λ xs. i < length xs) same within) so_far
-    (subst (λ g. IsAnswered file g answer) (is ∙ ap (λ xs. slice_index_or xs i goal) same) one)
-
--- the next goal is one of the file
-pub next_is_goal : (file : File) (goals : List Goal) (i : ℕ) (goal : Goal) → goals ≡ file.goals → i < length goals →
-    goal ≡ slice_index_or goals i goal → All (IsGoal file) file.goals → IsGoal file goal
-next_is_goal file goals i goal same within is all =
-    subst (IsGoal file) (sym is)
-    (All-get_or (IsGoal file) goals i goal within (subst (All (IsGoal file)) (sym same) all))
+pub next_answered : (file : File) (i : ℕ) (answers : List Answer) (answer : Answer) → i < length file.goals →
+    AreAnswered file i answers → IsAnswered file (goal_at file i) answer →
+    AreAnswered file (i + 1) (answers ++ answer ∷ [])
+next_answered file i answers answer within so_far one =
+    more (IsAnswered file) file.goals answers i no_goal answer within so_far one
 
 -- all goals are answered
 pub all_answered : (file : File) (count : ℕ) (answers : List Answer) → length file.goals ≤ count →

@@ -1,4 +1,4 @@
--- The file that the answers are tried on is valid, and its goals are by ring.
+-- The file that the answers are tried on is valid.
 use Rattle.std.proofs.Common.{◌≡◌, ◌≢◌, ◌<◌, ◌+◌, ℕ, ℤ, List, [], ◌∷◌, refl, sym, subst, arith, rules, lit<, lit≤, ap}
 use Rattle.std.specs.List.{AllByRecursion}
 use Rattle.std.specs.Prelude.{All, AllPairs, Contains, pos, ◌≤ℤ◌}
@@ -6,10 +6,13 @@ use Rattle.std.proofs.lemmas.List.Elements.{All-from_recursion, All-nil, All-tak
 use Rattle.std.proofs.lemmas.List.Kept.{AllPairs-cons}
 use Rattle.alg_terms.specs.declared.file.File.{File}
 use Rattle.alg_terms.specs.declared.file.Statement.{Statement}
-use Rattle.alg_terms.specs.declared.goals.Goal.{Goal}
 use Rattle.alg_terms.specs.Limits.{MAX_LITERAL}
-use Rattle.alg_terms.specs.GoalRules.{IsGoal, IsRingOrField}
-use Rattle.alg_terms.specs.Members.{sort_of_var}
+use Rattle.alg_terms.specs.declared.goals.Equation.{Equation}
+use Rattle.alg_terms.specs.declared.goals.Method.{Method}
+use Rattle.alg_terms.specs.declared.goals.Method.TheVariants.{ByRing}
+use Rattle.alg_terms.specs.GoalRules.{DividesNowhere, IsGoal, IsUse, MayBeBy}
+use Rattle.alg_terms.specs.Kinds.{IsDomain}
+use Rattle.alg_terms.specs.Members.{kind_of, sort_of_var}
 use Rattle.alg_terms.specs.Names.{IsName}
 use Rattle.alg_terms.specs.Nodes.{fold_term}
 use Rattle.alg_terms.specs.Order.{IsOrdered, Members, AreAmong, used_by, declared_by_all, IsOneSorted}
@@ -19,7 +22,7 @@ use Rattle.alg_terms.specs.GoalRules.{IsHyp}
 use Rattle.alg_terms.proofs.SmallNames.{spelled}
 use Rattle.alg_terms.proofs.Splits.{EachSplit, each_split}
 use Rattle.alg_reify.proofs.Tried.{tried_is_equation}
-use Rattle.alg_prover.specs.Examples.{example_goal, example}
+use Rattle.alg_prover.specs.Examples.{by_nsatz, example_goal, example}
 
 counts : HasCounts example
 counts = record { sorts = lit< tt; homs = lit< tt; vars = lit< tt; hyps = lit< tt; goals = lit< tt; order = lit< tt }
@@ -37,13 +40,28 @@ two_apart =
     (λ i j d below within. absurd (omega arith))
     )
 
--- both goals are goals of the file
-is_goal : (c d : ℤ) → (pos 0 ≤ℤ c) × (c ≤ℤ MAX_LITERAL) → (pos 0 ≤ℤ d) × (d ≤ℤ MAX_LITERAL) →
-    IsGoal example (example_goal c d)
-is_goal c d small great =
+-- the goals are goals of the file
+is_goal : (c d : ℤ) (method : Method) → (pos 0 ≤ℤ c) × (c ≤ℤ MAX_LITERAL) → (pos 0 ≤ℤ d) × (d ≤ℤ MAX_LITERAL) →
+    ((e : Equation) → e.sort ≡ 0 → DividesNowhere e → MayBeBy example e method) →
+    IsGoal example (example_goal c d method)
+is_goal c d method small great may =
     let e =
     tried_is_equation example (pos 3) 2 c d (lit< tt) (search rules) (lit≤ tt) small great 0 _ _ refl refl refl in
-    record { equation = e.0; method = e.1 }
+    record { equation = e.0; method = may _ refl e.1 }
+
+by_ring : (e : Equation) → e.sort ≡ 0 → DividesNowhere e → MayBeBy example e ByRing
+by_ring e sort plain = plain
+
+by_search : (e : Equation) → e.sort ≡ 0 → DividesNowhere e → MayBeBy example e by_nsatz
+by_search e sort plain = record {
+  domain = subst (λ s. IsDomain (kind_of example s)) (sym sort) tt;
+  divides_nowhere = plain;
+  each_use = All-nil (IsUse example e.sort);
+  few_uses = lit≤ tt;
+  power_low = lit≤ tt;
+  power_high = lit≤ tt;
+  limit_high = lit≤ tt;
+}
 
 -- members that are among others, each by its place there
 made : (members others : Members) → AllByRecursion (Contains others.sorts) members.sorts →
@@ -71,7 +89,14 @@ earlier = (
       made _ _ tt tt ((0, lit< tt, refl), ((0, lit< tt, refl), ((0, lit< tt, refl), ((0, lit< tt, refl), tt)))) tt,
       (
         made _ _ tt tt ((0, lit< tt, refl), ((0, lit< tt, refl), ((0, lit< tt, refl), ((0, lit< tt, refl), tt)))) tt,
-        tt,
+        (
+          made _ _ tt tt ((0, lit< tt, refl), ((0, lit< tt, refl), ((0, lit< tt, refl), ((0, lit< tt, refl), tt)))) tt,
+          (
+            made _ _ tt tt ((0, lit< tt, refl), ((0, lit< tt, refl), ((0, lit< tt, refl), ((0, lit< tt, refl), tt))))
+                tt,
+            tt,
+          ),
+        ),
       ),
     ),
   ),
@@ -83,7 +108,7 @@ one_var k below = let none : k ≡ 0 = omega arith in ap (λ w. sort_of_var exam
 ordered : IsOrdered example
 ordered = record {
   once_rising = refl;
-  one_sorted = All-from_recursion (IsOneSorted example) example.order (tt, ((lit≤ tt, one_var), (tt, (tt, tt))));
+  one_sorted = All-from_recursion (IsOneSorted example) example.order (tt, ((lit≤ tt, one_var), (tt, (tt, (tt, (tt, tt))))));
   earlier = λ before after statement is. each_split UsesEarlier [] example.order before after statement earlier is;
 }
 
@@ -97,17 +122,18 @@ example_is_valid = record {
   vars = All-from_recursion (IsVar example) example.vars (lit< tt, tt);
   hyps = All-nil (IsHyp example);
   goals = All-from_recursion (IsGoal example) example.goals (
-    is_goal (pos 5) (pos 5) (search rules) (search rules),
-    (is_goal (pos 5) (pos 6) (search rules) (search rules), tt),
+    is_goal (pos 5) (pos 5) ByRing (search rules) (search rules) by_ring,
+    (
+      is_goal (pos 5) (pos 6) ByRing (search rules) (search rules) by_ring,
+      (
+        is_goal (pos 5) (pos 5) by_nsatz (search rules) (search rules) by_search,
+        (is_goal (pos 5) (pos 6) by_nsatz (search rules) (search rules) by_search, tt),
+      ),
+    ),
   );
   ordered = ordered;
 }
 
--- what equals this file is valid, and its goals are by ring
+-- what equals this file is valid
 pub is_valid : (file : File) → file ≡ example → IsValid file
 is_valid file is = subst IsValid (sym is) example_is_valid
-
-pub are_by_ring : (file : File) → file ≡ example → All (λ goal. IsRingOrField goal.method) file.goals
-are_by_ring file is =
-    let Is : Goal → Type 0 = λ goal. IsRingOrField goal.method in
-    subst (λ f. All Is f.goals) (sym is) (All-from_recursion Is example.goals (tt, (tt, tt)))

@@ -1,4 +1,6 @@
 pub mod Answered
+pub mod Certificates
 pub mod Examples
+pub mod InFree
 pub mod Printing
 pub mod Verdicts

@@ -12,13 +12,13 @@ use Rattle.alg_mono.specs.FiniteMaps.{Each}
 use Rattle.alg_mono.specs.Mono.{Monomial}
 use Rattle.alg_mono.specs.Monomials.{IsMono}
 use Rattle.alg_mono.specs.Polynomials.{MAX}
-use Rattle.alg_printer.specs.Monomials.{goal_atoms, IsOverAtoms}
+use Rattle.alg_printer.specs.Monomials.{IsOverAtoms}
 use Rattle.alg_printer.specs.Printable.{IsPrintable, HasForm, IsInteger}
 use Rattle.alg_reify.specs.FieldLaws.{FieldNoIsOverTheTable, FieldNoIsWithinRange, FieldTermsMayStand}
 use Rattle.alg_reify.specs.FieldVerdict.{FieldVerdict, IsFieldVerdict}
 use Rattle.alg_reify.specs.Laws.{NoIsOverTheTable, NoIsWithinRange}
 use Rattle.alg_reify.specs.RingVerdict.{RingVerdict, IsRingVerdict, own_table}
-use Rattle.alg_reify.specs.Table.{table, MAX_ATOMS}
+use Rattle.alg_reify.specs.Table.{goal_atoms, table, MAX_ATOMS}
 use Rattle.alg_terms.specs.declared.file.File.{File}
 use Rattle.alg_terms.specs.declared.goals.Goal.{Goal}
 use Rattle.alg_terms.specs.declared.goals.Method.TheVariants.{ByRing, ByField}
@@ -28,12 +28,12 @@ use Rattle.alg_terms.specs.GoalRules.{IsEquation, IsGoal}
 use Rattle.alg_terms.specs.Members.{uses_of}
 
 -- the atoms of a monomial are among as many
-each_over : (atoms : List Atom) (m : Monomial) → Each (λ k. k < length atoms) m → IsOverAtoms atoms m
+pub each_over : (atoms : List Atom) (m : Monomial) → Each (λ k. k < length atoms) m → IsOverAtoms atoms m
 each_over atoms [] h = All-nil (λ (e : ℕ × ℕ). e.0 < length atoms)
 each_over atoms (e ∷ m) h = All-cons (λ (e : ℕ × ℕ). e.0 < length atoms) e m h.0 (each_over atoms m h.1)
 
 -- a table of few atoms is one of a goal's answer
-few : (atoms : List Atom) → length atoms ≤ MAX_ATOMS → (if nat_le (length atoms) MAX_ATOMS then atoms else []) ≡ atoms
+pub few : (atoms : List Atom) → length atoms ≤ MAX_ATOMS → (if nat_le (length atoms) MAX_ATOMS then atoms else []) ≡ atoms
 few atoms small = ap (λ b. if b then atoms else []) (le-leb (length atoms) MAX_ATOMS small)
 
 -- the atoms of the answer to a goal without uses are those of its equation

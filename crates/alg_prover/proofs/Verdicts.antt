@@ -19,31 +19,40 @@ use Rattle.alg_reify.specs.FieldLaws.{OneFieldVerdict}
 use Rattle.alg_reify.specs.FieldVerdict.{FieldVerdict, IsFieldVerdict}
 use Rattle.alg_reify.specs.Laws as reify
 use Rattle.alg_field.specs.Laws as field
+use Rattle.alg_nsatz.specs.Laws as nsatz
+use Rattle.alg_nsatz.specs.Verdict.{NsatzVerdict, IsVerdictBy}
 use Rattle.alg_ring.specs.Laws as ring
-use Rattle.alg_prover.specs.Answers.{answer_of, field_answer_of, IsAnswerBy, IsAnswer}
+use Rattle.alg_prover.specs.Answers.{answer_of, field_answer_of, nsatz_answer_of, IsAnswerBy, IsAnswer}
 use Rattle.alg_prover.specs.Laws.{OneAnswer, ProvedIsRight, CertifiedIsRight, NoDiffers}
 
-one_by : reify.OneRingVerdict → OneFieldVerdict → (file : File) (e : Equation) (method : Method) (a b : Answer) →
-    IsAnswerBy file e method a → IsAnswerBy file e method b → a ≡ b
-one_by ring_law field_law file e ByRing a b (v, h, p) (w, k, q) = p ∙ ap answer_of (ring_law file e v w h k) ∙ sym q
-one_by ring_law field_law file e ByField a b (v, h, p) (w, k, q) =
-    p ∙ ap field_answer_of (field_law file e v w h k) ∙ sym q
-one_by ring_law field_law file e (ByNsatz uses power limit) a b h k = absurd h
+-- the laws that a verdict is determined
+pub record AreDetermined : Type 0 where
+  pub by_ring : reify.OneRingVerdict
+  pub by_field : OneFieldVerdict
+  pub by_nsatz : nsatz.OneNsatzVerdict
 
-one_each : reify.OneRingVerdict → OneFieldVerdict → (file : File) (goals : List Goal) (one other : List Answer) →
+one_by : AreDetermined → (file : File) (e : Equation) (method : Method) (a b : Answer) →
+    IsAnswerBy file e method a → IsAnswerBy file e method b → a ≡ b
+one_by law file e ByRing a b (v, h, p) (w, k, q) = p ∙ ap answer_of (law.by_ring file e v w h k) ∙ sym q
+one_by law file e ByField a b (v, h, p) (w, k, q) = p ∙ ap field_answer_of (law.by_field file e v w h k) ∙ sym q
+one_by law file e (ByNsatz uses power limit) a b (v, h, p) (w, k, q) =
+    let goal : Goal = record { equation = e; method = ByNsatz uses power limit } in
+    p ∙ ap nsatz_answer_of (law.by_nsatz file goal v w h k) ∙ sym q
+
+one_each : AreDetermined → (file : File) (goals : List Goal) (one other : List Answer) →
     AllZip (IsAnswer file) goals one → AllZip (IsAnswer file) goals other → one ≡ other
-one_each ring_law field_law file [] [] [] h k = refl
-one_each ring_law field_law file [] [] (b ∷ other) h k = absurd k
-one_each ring_law field_law file [] (a ∷ one) other h k = absurd h
-one_each ring_law field_law file (goal ∷ goals) [] other h k = absurd h
-one_each ring_law field_law file (goal ∷ goals) (a ∷ one) [] h k = absurd k
-one_each ring_law field_law file (goal ∷ goals) (a ∷ one) (b ∷ other) h k =
-    ap (λ x. x ∷ one) (one_by ring_law field_law file goal.equation goal.method a b h.0 k.0)
-    ∙ ap (λ xs. b ∷ xs) (one_each ring_law field_law file goals one other h.1 k.1)
+one_each law file [] [] [] h k = refl
+one_each law file [] [] (b ∷ other) h k = absurd k
+one_each law file [] (a ∷ one) other h k = absurd h
+one_each law file (goal ∷ goals) [] other h k = absurd h
+one_each law file (goal ∷ goals) (a ∷ one) [] h k = absurd k
+one_each law file (goal ∷ goals) (a ∷ one) (b ∷ other) h k =
+    ap (λ x. x ∷ one) (one_by law file goal.equation goal.method a b h.0 k.0)
+    ∙ ap (λ xs. b ∷ xs) (one_each law file goals one other h.1 k.1)
 
 -- the answers to the goals of a file are determined
-pub one_answer : reify.OneRingVerdict → OneFieldVerdict → OneAnswer
-one_answer ring_law field_law file one other h k = one_each ring_law field_law file file.goals one other h k
+pub one_answer : AreDetermined → OneAnswer
+one_answer law file one other h k = one_each law file file.goals one other h k
 
 -- an answer proved is that of the verdict proved, without conditions
 proved_only : (file : File) (e : Equation) (conditions : List Term) (v : RingVerdict) → IsRingVerdict file e v →
@@ -66,6 +75,15 @@ proved_under file e conditions (FieldVerdict.Proved terms) h same =
     subst (IsFieldVerdict file e) verdict h
 proved_under file e conditions (FieldVerdict.No m a b) h same = absurd (cc)
 
+-- by nsatz it is none
+never_proved : (conditions : List Term) (v : NsatzVerdict) → Proved conditions ≡ nsatz_answer_of v → ⊥
+never_proved conditions NsatzVerdict.Atoms same = cc
+never_proved conditions NsatzVerdict.Range same = cc
+never_proved conditions NsatzVerdict.Degree same = cc
+never_proved conditions (NsatzVerdict.Proved constants cert) same = cc
+never_proved conditions (NsatzVerdict.NoneUpTo power) same = cc
+never_proved conditions (NsatzVerdict.GaveUp limit) same = cc
+
 proved_by : {E : Type 0} (u : Ghosts E) → ((method : Method) (file : File) (i : ℕ) (conditions : List Term) →
     (method ≡ ByRing → IsRingVerdict file (goal_at file i).equation RingVerdict.Proved → IsRight u file i [] []) →
     (method ≡ ByField → IsFieldVerdict file (goal_at file i).equation (FieldVerdict.Proved conditions) →
@@ -76,7 +94,8 @@ proved_by u ByRing file i conditions right under (v, h, same) =
     subst (λ cs. IsRight u file i cs []) (sym none) (right refl proved)
 proved_by u ByField file i conditions right under (v, h, same) =
     under refl (proved_under file (goal_at file i).equation conditions v h same)
-proved_by u (ByNsatz uses power limit) file i conditions right under h = absurd h
+proved_by u (ByNsatz uses power limit) file i conditions right under (v, h, same) =
+    absurd (never_proved conditions v same)
 
 -- a goal that is answered proved is right
 pub proved_is_right : {E : Type 0} (u : Ghosts E) → ring.ProvedIsRight u → field.ProvedIsRight u → ProvedIsRight u
@@ -100,17 +119,32 @@ never_by_field constants cert (FieldVerdict.ZeroDenominator t) same = cc
 never_by_field constants cert (FieldVerdict.Proved conditions) same = cc
 never_by_field constants cert (FieldVerdict.No m a b) same = cc
 
-certified_by : {E : Type 0} (u : Ghosts E) →
-    ((method : Method) (file : File) (i : ℕ) (constants : List ℤ) (cert : Cert) →
-    IsAnswerBy file (goal_at file i).equation method (Certified constants cert) → IsRight u file i [] constants)
-certified_by u ByRing file i constants cert (v, h, same) = absurd (never_certified constants cert v same)
-certified_by u ByField file i constants cert (v, h, same) = absurd (never_by_field constants cert v same)
-certified_by u (ByNsatz uses power limit) file i constants cert h = absurd h
+-- by nsatz it is that of the verdict proved with its constants
+certified_only : (file : File) (e : Equation) (method : Method) (constants : List ℤ) (cert : Cert) (v : NsatzVerdict) →
+    IsVerdictBy file e method v → Certified constants cert ≡ nsatz_answer_of v →
+    IsVerdictBy file e method (NsatzVerdict.Proved constants cert)
+certified_only file e method constants cert NsatzVerdict.Atoms h same = absurd (cc)
+certified_only file e method constants cert NsatzVerdict.Range h same = absurd (cc)
+certified_only file e method constants cert NsatzVerdict.Degree h same = absurd (cc)
+certified_only file e method constants cert (NsatzVerdict.Proved numbers one) h same =
+    let verdict : NsatzVerdict.Proved numbers one ≡ NsatzVerdict.Proved constants cert = cc in
+    subst (IsVerdictBy file e method) verdict h
+certified_only file e method constants cert (NsatzVerdict.NoneUpTo power) h same = absurd (cc)
+certified_only file e method constants cert (NsatzVerdict.GaveUp limit) h same = absurd (cc)
+
+certified_by : (file : File) (e : Equation) (method : Method) (constants : List ℤ) (cert : Cert) →
+    IsAnswerBy file e method (Certified constants cert) →
+    IsVerdictBy file e method (NsatzVerdict.Proved constants cert)
+certified_by file e ByRing constants cert (v, h, same) = absurd (never_certified constants cert v same)
+certified_by file e ByField constants cert (v, h, same) = absurd (never_by_field constants cert v same)
+certified_by file e (ByNsatz uses power limit) constants cert (v, h, same) =
+    certified_only file e (ByNsatz uses power limit) constants cert v h same
 
 -- a goal that is answered by a certificate is right
-pub certified_is_right : {E : Type 0} (u : Ghosts E) → CertifiedIsRight u
-certified_is_right u file i constants cert valid low h =
-    certified_by u (goal_at file i).method file i constants cert h
+pub certified_is_right : {E : Type 0} (u : Ghosts E) → nsatz.ProvedIsRight u → CertifiedIsRight u
+certified_is_right u law file i constants cert valid low h =
+    let goal = goal_at file i in
+    law file i valid low constants cert (certified_by file goal.equation goal.method constants cert h)
 
 no_only : (file : File) (e : Equation) (at : Monomial) (left right : ℤ) (v : RingVerdict) → IsRingVerdict file e v →
     No at left right ≡ answer_of v → IsRingVerdict file e (RingVerdict.No at left right)
@@ -128,7 +162,7 @@ no_by : reify.NoDiffers → (method : Method) (file : File) (i : ℕ) (at : Mono
 no_by law ByRing file i at left right by_ring (v, h, same) =
     let e = (goal_at file i).equation in law file e at left right (no_only file e at left right v h same)
 no_by law ByField file i at left right by_ring h = absurd (cc)
-no_by law (ByNsatz uses power limit) file i at left right by_ring h = absurd h
+no_by law (ByNsatz uses power limit) file i at left right by_ring h = absurd (cc)
 
 -- a goal that is answered no has different sides
 pub no_differs : reify.NoDiffers → NoDiffers

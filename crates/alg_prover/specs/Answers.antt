@@ -7,10 +7,11 @@ use Rattle.alg_terms.specs.declared.goals.Goal.{Goal}
 use Rattle.alg_terms.specs.declared.goals.Method.{Method}
 use Rattle.alg_terms.specs.declared.goals.Method.TheVariants.{ByRing, ByField, ByNsatz}
 use Rattle.alg_lines.specs.declared.answer.Answer.{Answer}
-use Rattle.alg_lines.specs.declared.answer.Answer.TheVariants.{Proved, No, ZeroDenominator, Atoms, Range, Degree}
+use Rattle.alg_lines.specs.declared.answer.Answer.TheVariants.{Proved, Certified, No, ZeroDenominator, NoneUpTo, GaveUp, Atoms, Range, Degree}
 use Rattle.alg_reify.specs.declared.stop.Stop.{Stop}
 use Rattle.alg_reify.specs.FieldVerdict.{FieldVerdict, IsFieldVerdict}
 use Rattle.alg_reify.specs.RingVerdict.{RingVerdict, IsRingVerdict}
+use Rattle.alg_nsatz.specs.Verdict.{NsatzVerdict, IsVerdictOf}
 
 -- a verdict by ring as an answer: what is proved by ring is proved without conditions
 abbrev pub answer_of : RingVerdict → Answer
@@ -29,12 +30,22 @@ field_answer_of (FieldVerdict.ZeroDenominator t) = ZeroDenominator t
 field_answer_of (FieldVerdict.Proved conditions) = Proved conditions
 field_answer_of (FieldVerdict.No at left right) = No at left right
 
--- the answer to an equation by a method; no goal by nsatz is answered yet
+-- a verdict by nsatz as an answer: what is proved is so by a certificate
+abbrev pub nsatz_answer_of : NsatzVerdict → Answer
+nsatz_answer_of NsatzVerdict.Atoms = Atoms
+nsatz_answer_of NsatzVerdict.Range = Range
+nsatz_answer_of NsatzVerdict.Degree = Degree
+nsatz_answer_of (NsatzVerdict.Proved constants cert) = Certified constants cert
+nsatz_answer_of (NsatzVerdict.NoneUpTo power) = NoneUpTo power
+nsatz_answer_of (NsatzVerdict.GaveUp limit) = GaveUp limit
+
+-- the answer to an equation by a method
 abbrev pub IsAnswerBy : File → Equation → Method → Answer → Type 0
 IsAnswerBy file e ByRing answer = (verdict : RingVerdict) × IsRingVerdict file e verdict × (answer ≡ answer_of verdict)
 IsAnswerBy file e ByField answer =
     (verdict : FieldVerdict) × IsFieldVerdict file e verdict × (answer ≡ field_answer_of verdict)
-IsAnswerBy file e (ByNsatz uses power limit) answer = ⊥
+IsAnswerBy file e (ByNsatz uses power limit) answer =
+    (verdict : NsatzVerdict) × IsVerdictOf file e uses power limit verdict × (answer ≡ nsatz_answer_of verdict)
 
 -- the answer to a goal
 abbrev pub IsAnswer : File → Goal → Answer → Type 0

@@ -1,5 +1,6 @@
 //! What the answers to goals say. The functions do nothing: their contracts are the laws.
 
+ghost use Rattle.alg_prover.specs.InFree.{NoDiffersInFree};
 ghost use Rattle.alg_prover.specs.Laws.{OneAnswer, ProvedIsRight, CertifiedIsRight, NoDiffers};
 
 use alg_universe::Universe;
@@ -10,6 +11,7 @@ pub fn one_answer()
 {
     alg_reify::laws::one_ring_verdict();
     alg_reify::laws::one_field_verdict();
+    alg_nsatz::laws::one_nsatz_verdict();
 }
 
 /// A goal that is answered proved is right in every universe, at all values at which its used
@@ -20,12 +22,16 @@ pub fn proved_is_right<U: Universe>()
 {
     alg_ring::laws::proved_is_right::<U>();
     alg_field::laws::proved_is_right::<U>();
+    alg_nsatz::laws::proved_is_right::<U>();
 }
 
 /// The sides of a goal by ring that is answered no are different polynomials: at the monomial of the
-/// answer, read as atoms, they have its two coefficients, which differ.
+/// answer, read as atoms, they have its two coefficients, which differ. Where the file is valid and
+/// declares no field, the polynomials fit it, and the sides have different values among them.
 pub fn no_differs()
-    ensures { NoDiffers }
+    ensures polynomials { NoDiffers }
+    ensures values { NoDiffersInFree }
 {
+    alg_meaning::laws::free_fits();
     alg_reify::laws::no_differs();
 }

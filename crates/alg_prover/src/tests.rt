@@ -1,8 +1,8 @@
-//! A file of two goals, and their answers.
+//! A file of four goals, and their answers.
 
 ghost use Rattle.std.specs.Prelude.{◌≡◌, IfOk, pos};
 ghost use Rattle.alg_reify.specs.Tried.{tried};
-ghost use Rattle.alg_prover.specs.Examples.{example, example_goal};
+ghost use Rattle.alg_prover.specs.Examples.{by_nsatz, example, example_goal};
 
 use crate::laws::{no_differs, one_answer, proved_is_right};
 use crate::{NoMemory, answers};
@@ -29,9 +29,19 @@ fn side(alloc: Global, c: u64) -> Result<Term, NoMemory>
     ))
 }
 
-// (3*x)^2*x + c = (3*x)^2*x + d by ring
-fn goal(alloc: Global, c: u64, d: u64) -> Result<Goal, NoMemory>
-    ensures { IfOk result (λ goal. goal ≡ example_goal (pos c) (pos d)) }
+fn by_nsatz(alloc: Global) -> Method
+    ensures { result ≡ by_nsatz }
+{
+    Method::ByNsatz {
+        uses: Seq::from_vec(Vec::new(alloc)),
+        power: 1,
+        limit: 10,
+    }
+}
+
+// (3*x)^2*x + c = (3*x)^2*x + d
+fn goal(alloc: Global, c: u64, d: u64, method: Method) -> Result<Goal, NoMemory>
+    ensures { IfOk result (λ goal. goal ≡ example_goal (pos c) (pos d) method) }
 {
     let left = side(alloc, c)?;
     let right = side(alloc, d)?;
@@ -41,7 +51,7 @@ fn goal(alloc: Global, c: u64, d: u64) -> Result<Goal, NoMemory>
             left,
             right,
         },
-        method: Method::ByRing,
+        method,
     })
 }
 
@@ -49,8 +59,10 @@ fn goals(alloc: Global) -> Result<Seq<Goal>, NoMemory>
     ensures { IfOk result (λ goals. goals ≡ example.goals) }
 {
     let mut goals = Seq::from_vec(Vec::new(alloc));
-    goals.push(goal(alloc, 5, 5)?)?;
-    goals.push(goal(alloc, 5, 6)?)?;
+    goals.push(goal(alloc, 5, 5, Method::ByRing)?)?;
+    goals.push(goal(alloc, 5, 6, Method::ByRing)?)?;
+    goals.push(goal(alloc, 5, 5, by_nsatz(alloc))?)?;
+    goals.push(goal(alloc, 5, 6, by_nsatz(alloc))?)?;
     Ok(goals)
 }
 
@@ -60,7 +72,7 @@ fn sorts(alloc: Global) -> Result<Seq<Sort>, NoMemory>
     let mut sorts = Seq::from_vec(Vec::new(alloc));
     sorts.push(Sort {
         name: Name::new(alloc, "_")?,
-        kind: Kind::Ring,
+        kind: Kind::Domain,
         char0: false,
     })?;
     Ok(sorts)
@@ -85,6 +97,8 @@ fn order(alloc: Global) -> Result<Seq<Statement>, NoMemory>
     order.push(Statement::Vars { first: 0, count: 1 })?;
     order.push(Statement::Goal(0))?;
     order.push(Statement::Goal(1))?;
+    order.push(Statement::Goal(2))?;
+    order.push(Statement::Goal(3))?;
     Ok(order)
 }
 
@@ -113,9 +127,14 @@ fn each_goal_has_its_own_answer(rt: HostRuntime) -> Result<(), Fail> {
         [
             Answer::Proved { conditions },
             Answer::No { at, left, right },
+            Answer::Certified { constants, cert },
+            Answer::NoneUpTo { power },
         ] => {
             assert!(rt; conditions.items().is_empty(), "without conditions");
             assert_eq!(rt; (at.degree(), *left, *right), (0, 5, 6));
+            let steps = cert.steps.items().len() + cert.lines.items().len();
+            assert_eq!(rt; (cert.power, steps, constants.items().len()), (1, 0, 0));
+            assert_eq!(rt; *power, 1);
         }
         _ => panic!(rt; "{answers:?}"),
     }

@@ -2,9 +2,10 @@
 use Rattle.std.proofs.Common.{◌≡◌, ℕ, ◌||◌, ◌&&◌, Bool, true, false, List, [], ◌∷◌, ◌++◌, ◌⊎◌, inl, inr, refl, sym, ap, subst, arith, eq-eqb}
 use Rattle.alg_tokens.specs.declared.token.Token.{Token}
 use Rattle.alg_reader.specs.Kinds.{variant, code}
-use Rattle.alg_reader.specs.Forms.{Rule, Statement, Ring, Sort, Hom, Vars, Hyp, Goal, Method, Use, Sum, Product, Unary, Power, Leaf, Form, a, seq, alt, opt, many, rule, Tree, token, pair, left, right, none, some, end, more, node, spelled}
+use Rattle.alg_reader.specs.Forms.{Rule, Form, a, seq, alt, opt, many, rule, Tree, token, pair, left, right, none, some, end, more, node, spelled}
 use Rattle.alg_reader.specs.Grammar.{grammar, Fits}
-use Rattle.alg_reader.specs.Ahead.{rule_begins, rule_goes_on, nullable, begins, goes_on, CannotGoOn, SameHead, Starts, Lacks}
+use Rattle.alg_reader.specs.Ahead.{nullable, begins, goes_on, CannotGoOn, SameHead, Starts, Lacks}
+use Rattle.alg_reader.proofs.RulesAhead.{rule_begins_right, rule_not_nullable, rule_goes_on_right}
 
 pub or_first : (x y : Bool) → x ≡ true → (x || y) ≡ true
 or_first true y h = refl
@@ -13,57 +14,6 @@ or_first false y h = cc
 pub or_true : (x : Bool) → (x || true) ≡ true
 or_true true = refl
 or_true false = refl
-
-rule_begins_right : (r : Rule) (n : ℕ) → begins (grammar r) n ≡ true → rule_begins r n ≡ true
-unfolding grammar rule_begins
-rule_begins_right Statement n h = grind arith
-rule_begins_right Ring n h = grind arith
-rule_begins_right Sort n h = grind arith
-rule_begins_right Hom n h = grind arith
-rule_begins_right Vars n h = grind arith
-rule_begins_right Hyp n h = grind arith
-rule_begins_right Goal n h = grind arith
-rule_begins_right Method n h = grind arith
-rule_begins_right Use n h = grind arith
-rule_begins_right Sum n h = grind arith
-rule_begins_right Product n h = grind arith
-rule_begins_right Unary n h = grind arith
-rule_begins_right Power n h = grind arith
-rule_begins_right Leaf n h = grind arith
-
-rule_not_nullable : (r : Rule) → nullable (grammar r) ≡ false
-unfolding grammar
-rule_not_nullable Statement = refl
-rule_not_nullable Ring = refl
-rule_not_nullable Sort = refl
-rule_not_nullable Hom = refl
-rule_not_nullable Vars = refl
-rule_not_nullable Hyp = refl
-rule_not_nullable Goal = refl
-rule_not_nullable Method = refl
-rule_not_nullable Use = refl
-rule_not_nullable Sum = refl
-rule_not_nullable Product = refl
-rule_not_nullable Unary = refl
-rule_not_nullable Power = refl
-rule_not_nullable Leaf = refl
-
-rule_goes_on_right : (r : Rule) (n : ℕ) → goes_on (grammar r) n ≡ true → rule_goes_on r n ≡ true
-unfolding grammar rule_goes_on rule_begins
-rule_goes_on_right Statement n h = grind arith
-rule_goes_on_right Ring n h = grind arith
-rule_goes_on_right Sort n h = grind arith
-rule_goes_on_right Hom n h = grind arith
-rule_goes_on_right Vars n h = grind arith
-rule_goes_on_right Hyp n h = grind arith
-rule_goes_on_right Goal n h = grind arith
-rule_goes_on_right Method n h = grind arith
-rule_goes_on_right Use n h = grind arith
-rule_goes_on_right Sum n h = grind arith
-rule_goes_on_right Product n h = grind arith
-rule_goes_on_right Unary n h = grind arith
-rule_goes_on_right Power n h = grind arith
-rule_goes_on_right Leaf n h = grind arith
 
 pub not_true : (x : Bool) → (x ≡ true → ⊥) → x ≡ false
 not_true true h = absurd (h refl)

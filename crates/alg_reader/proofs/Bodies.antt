@@ -37,12 +37,12 @@ pub hyp_apart : Disjoint (begins (rule Hyp)) (begins (rule Goal))
 unfolding rule_begins
 hyp_apart n h h' = grind arith
 
-same_test : (m n : ℕ) → (m == n) ≡ (n == m)
+pub same_test : (m n : ℕ) → (m == n) ≡ (n == m)
 same_test m n = grind (arith, nat_tests)
 
-ring_word : (n : ℕ) → (43 == n) ≡ rule_begins Ring n
+ring_word : (n : ℕ) → (44 == n) ≡ rule_begins Ring n
 unfolding rule_begins
-ring_word n = same_test 43 n
+ring_word n = same_test 44 n
 
 pub starts_ring : (ts : List Token) → Starts (word words.Ring) ts → Starts (rule Ring) ts
 starts_ring ts s = (s.0, s.1, s.2, sym (ring_word (code s.0)) ∙ s.3)
@@ -50,9 +50,9 @@ starts_ring ts s = (s.0, s.1, s.2, sym (ring_word (code s.0)) ∙ s.3)
 pub lacks_ring : (ts : List Token) → Lacks (word words.Ring) ts → Lacks (rule Ring) ts
 lacks_ring ts s = (s.0, s.1, s.2, sym (ring_word (code s.0)) ∙ s.3)
 
-hom_word : (n : ℕ) → (30 == n) ≡ rule_begins Hom n
+hom_word : (n : ℕ) → (31 == n) ≡ rule_begins Hom n
 unfolding rule_begins
-hom_word n = same_test 30 n
+hom_word n = same_test 31 n
 
 pub starts_hom : (ts : List Token) → Starts (word words.Hom) ts → Starts (rule Hom) ts
 starts_hom ts s = (s.0, s.1, s.2, sym (hom_word (code s.0)) ∙ s.3)
@@ -60,9 +60,9 @@ starts_hom ts s = (s.0, s.1, s.2, sym (hom_word (code s.0)) ∙ s.3)
 pub lacks_hom : (ts : List Token) → Lacks (word words.Hom) ts → Lacks (rule Hom) ts
 lacks_hom ts s = (s.0, s.1, s.2, sym (hom_word (code s.0)) ∙ s.3)
 
-vars_word : (n : ℕ) → (49 == n) ≡ rule_begins Vars n
+vars_word : (n : ℕ) → (50 == n) ≡ rule_begins Vars n
 unfolding rule_begins
-vars_word n = same_test 49 n
+vars_word n = same_test 50 n
 
 pub starts_vars : (ts : List Token) → Starts (word words.Var) ts → Starts (rule Vars) ts
 starts_vars ts s = (s.0, s.1, s.2, sym (vars_word (code s.0)) ∙ s.3)
@@ -70,9 +70,9 @@ starts_vars ts s = (s.0, s.1, s.2, sym (vars_word (code s.0)) ∙ s.3)
 pub lacks_vars : (ts : List Token) → Lacks (word words.Var) ts → Lacks (rule Vars) ts
 lacks_vars ts s = (s.0, s.1, s.2, sym (vars_word (code s.0)) ∙ s.3)
 
-hyp_word : (n : ℕ) → (31 == n) ≡ rule_begins Hyp n
+hyp_word : (n : ℕ) → (32 == n) ≡ rule_begins Hyp n
 unfolding rule_begins
-hyp_word n = same_test 31 n
+hyp_word n = same_test 32 n
 
 pub starts_hyp : (ts : List Token) → Starts (word words.Hyp) ts → Starts (rule Hyp) ts
 starts_hyp ts s = (s.0, s.1, s.2, sym (hyp_word (code s.0)) ∙ s.3)
@@ -91,9 +91,9 @@ pub lacks_sort : (ts : List Token) → LacksBoth (kinds.Word words.Domain) (kind
 unfolding rule_begins
 lacks_sort ts (h, k) =
     let same : k.0 ≡ h.0 = let e = h.2 in let e' = k.2 in cc in
-    let P : Token → Type 0 = λ t. (27 == code t) ≡ false in
-    let second : (27 == code h.0) ≡ false = subst P same k.3 in
-    let first : (26 == code h.0) ≡ false = h.3 in
+    let P : Token → Type 0 = λ t. (28 == code t) ≡ false in
+    let second : (28 == code h.0) ≡ false = subst P same k.3 in
+    let first : (27 == code h.0) ≡ false = h.3 in
     (h.0, h.1, h.2, grind (arith, nat_tests))
 
 pub body_ring : (ts new : List Token) (r : Result HeldStatement Fault) → Starts (rule Ring) ts

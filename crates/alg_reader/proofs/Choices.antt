@@ -8,7 +8,7 @@ use Rattle.alg_tokens.specs.declared.token.Sign.TheVariants as signs
 use Rattle.alg_reader.specs.declared.cursor.Fault.{Fault}
 use Rattle.alg_reader.specs.Kinds.{variant}
 use Rattle.alg_reader.specs.Forms.{Form, a, seq, alt, many, rule, Method, Sum}
-use Rattle.alg_reader.specs.Grammar.{word, option, using, options, body}
+use Rattle.alg_reader.specs.Grammar.{word, option, using, options}
 use Rattle.alg_reader.specs.TermMeaning.{Value}
 use Rattle.alg_reader.specs.Ahead.{nullable, begins, goes_on, rule_goes_on, rule_begins, Starts, Lacks}
 use Rattle.alg_reader.specs.Reading.{Reads, ReadsKept}
@@ -74,11 +74,12 @@ nsatz_apart n h h' = grind arith
 pub options_apart : Disjoint (goes_on (word words.Nsatz)) (begins options)
 options_apart n h h' = cc
 
-pub using_apart : Disjoint (goes_on using) (begins (seq (option words.Power) (option words.Limit)))
+pub using_apart : Disjoint (goes_on using) (begins (seq (option (kinds.Word words.Power))
+    (option (kinds.Word words.Limit))))
 unfolding rule_goes_on rule_begins
 using_apart n h h' = grind arith
 
-pub power_apart : Disjoint (goes_on (option words.Power)) (begins (option words.Limit))
+pub power_apart : Disjoint (goes_on (option (kinds.Word words.Power))) (begins (option (kinds.Word words.Limit)))
 power_apart n h h' = grind arith
 
 -- ---- statements
@@ -86,7 +87,3 @@ power_apart n h h' = grind arith
 pub names_then_colon : Disjoint (goes_on (many (a kinds.Name))) (begins (seq (a (kinds.Sign signs.Colon))
     (a kinds.Name)))
 names_then_colon n h h' = grind arith
-
-pub body_then_dot : Disjoint (goes_on body) (begins (a (kinds.Sign signs.Dot)))
-unfolding rule_goes_on
-body_then_dot n h h' = grind arith

@@ -27,7 +27,7 @@ unfolding grammar act
 ring_found text x ts (y, z, us, vs, e, _, (w, ew, _, _, _), (n, en, _, k, here)) =
     let P : Value → Type 0 = λ v. KindFound text (act rules.Ring v) ts in
     subst P (sym (e ∙ ap (λ v. two v z) ew ∙ ap (two (one w)) en))
-    (raws.Sort sorts.Ring (span_of n) false, refl, (name_at text n k here, λ h. cc), tt)
+    (raws.Sort sorts.Ring (span_of n) false, refl, tt, (name_at text n k here, λ h. cc), tt)
 
 sort_word_found : (text : List ℕ) (x : Value) (ts : List Token) → Found text (alt (word words.Domain)
     (word words.Field)) x ts → (w : Token) × (x ≡ one w) × ((variant (kinds.Word words.Domain) ≡ code w)
@@ -44,10 +44,11 @@ sort_found text x ts (y, z, us, vs, e, _, h, (y', z', us', vs', e', _, (n, en, _
     let start = e ∙ ap (λ v. two v z) ew ∙ ap (two (one w)) (e' ∙ ap (λ v. two v z') en) in
     elim o [
       | inl (ez, _) ↦ subst P (sym (start ∙ ap (λ v. two (one w) (two (one n) v)) ez))
-          (raws.Sort (sort_word w.kind) (span_of n) false, refl, (name_at text n k here, λ h. cc), tt)
+          (raws.Sort (sort_word w.kind) (span_of n) false, refl, tt, (name_at text n k here, λ h. cc), tt)
       | inr (c, d, _, _, ez, _, _, _) ↦ subst P (sym (start ∙ ap (λ v. two (one w) (two (one n) v)) ez)) (
         raws.Sort (sort_word w.kind) (span_of n) true,
         refl,
+        tt,
         (name_at text n k here, λ h. domain_words w.kind is),
         tt,
       )
@@ -108,6 +109,7 @@ hom_found text x ts (
     (e4 ∙ ap (λ v. two v z4) er ∙ ap (two (one r)) eg)))))) (
       raws.Hom (span_of n) (span_of f) (span_of g),
       refl,
+      tt,
       (name_at text n kn hn, name_at text f kf hf, name_at text g kg hg),
       tt,
     )
@@ -165,6 +167,7 @@ vars_found text x ts (
     (e2 ∙ ap (λ v. two v z2) ex ∙ ap (two (row xs)) (e3 ∙ ap (λ v. two v z3) ec ∙ ap (two (one c)) er))))) (
       raws.Vars (span_of n ∷ spans (row xs)) (span_of r),
       refl,
+      tt,
       (omega arith, (name_at text n kn hn, all), name_at text r kr hr),
       omega arith,
     )
@@ -210,4 +213,4 @@ hyp_found text x ts (
     subst P (sym (e ∙ ap (λ v. two v z) ew ∙ ap (two (one w)) (e1 ∙ ap (λ v. two v z1) en ∙ ap (two (one n))
     (e2 ∙ ap (λ v. two v z2) ec ∙ ap (two (one c)) (e3 ∙ ap (λ v. two v z3) et ∙ ap (two (term t))
     (e4 ∙ ap (λ v. two v z4) er ∙ ap (two (one r)) eu))))))
-    (raws.Hyp (span_of n) (sides t r u), refl, (name_at text n kn hn, ft, fu), tt)
+    (raws.Hyp (span_of n) (sides t r u), refl, tt, (name_at text n kn hn, ft, fu), tt)

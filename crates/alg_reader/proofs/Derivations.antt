@@ -16,7 +16,12 @@ use Rattle.alg_reader.proofs.Nodes.{chain_found}
 use Rattle.alg_reader.proofs.Rules.{unary_found, power_rule_found, leaf_found}
 use Rattle.alg_reader.proofs.UseRules.{use_found}
 use Rattle.alg_reader.proofs.Declarations.{ring_found, sort_found, hom_found, vars_found, hyp_found}
-use Rattle.alg_reader.proofs.GoalRules.{method_found, goal_found, statement_found}
+use Rattle.alg_reader.proofs.GoalRules.{method_found, goal_found}
+use Rattle.alg_reader.proofs.MonoRules.{atom_found, factor_found, factors_found, mono_found, int_found}
+use Rattle.alg_reader.proofs.ConditionRules.{condition_found, constant_found, conditional_found, certified_found}
+use Rattle.alg_reader.proofs.AnswerRules.{proved_found, no_found, zero_denominator_found, none_up_to_found, gave_up_found, stopped_found}
+use Rattle.alg_reader.proofs.CertificateRules.{combined_found, line_found, step_found}
+use Rattle.alg_reader.proofs.StatementRules.{statement_found}
 
 rule_found : (text : List ℕ) (r : Rule) (x : Value) (ts : List Token) → Found text (grammar r) x ts
     → RuleFound text r (act r x) ts
@@ -37,7 +42,25 @@ rule_found text rules.Vars x ts h = vars_found text x ts h
 rule_found text rules.Hom x ts h = hom_found text x ts h
 rule_found text rules.Sort x ts h = sort_found text x ts h
 rule_found text rules.Ring x ts h = ring_found text x ts h
-rule_found text rules.Statement x ts h = statement_found text x ts h
+rule_found text rules.Atom x ts h = atom_found text x ts h
+rule_found text rules.Factor x ts h = factor_found text x ts h
+rule_found text rules.Factors x ts h = factors_found text x ts h
+rule_found text rules.Mono x ts h = mono_found text x ts h
+rule_found text rules.Int x ts h = int_found text x ts h
+rule_found text rules.Condition x ts h = condition_found text x ts h
+rule_found text rules.Constant x ts h = constant_found text x ts h
+rule_found text rules.Conditional x ts h = conditional_found text x ts h
+rule_found text rules.Certified x ts h = certified_found text x ts h
+rule_found text rules.Proved x ts h = proved_found text x ts h
+rule_found text rules.No x ts h = no_found text x ts h
+rule_found text rules.ZeroDenominator x ts h = zero_denominator_found text x ts h
+rule_found text rules.NoneUpTo x ts h = none_up_to_found text x ts h
+rule_found text rules.GaveUp x ts h = gave_up_found text x ts h
+rule_found text rules.Stopped x ts h = stopped_found text x ts h
+rule_found text (rules.Combined format) x ts h = combined_found text format x ts h
+rule_found text (rules.Line format) x ts h = line_found text format x ts h
+rule_found text (rules.Step format) x ts h = step_found text format x ts h
+rule_found text (rules.Statement site) x ts h = statement_found site text x ts h
 
 nothing_found : (text : List ℕ) (f : Form) → Found text (many f) nothing []
 unfolding row

@@ -1,11 +1,16 @@
 -- What the tokens of a text mean: names of the text, and numbers in range.
-use Rattle.std.proofs.Common.{◌≡◌, ◌≤◌, ℕ, zero, suc, ◌⊎◌, true, false, List, [], ◌∷◌, ◌++◌, length, arith, ℤ, pos, ◌≤ℤ◌}
+use Rattle.std.proofs.Common.{◌≡◌, ◌≤◌, ◌+◌, ℕ, zero, suc, ◌⊎◌, true, false, List, [], ◌∷◌, ◌++◌, length, IfSome, arith}
 use Rattle.std.specs.List.{All, AllByRecursion}
 use Rattle.alg_tokens.specs.declared.token.Token.{Token}
-use Rattle.alg_tokens.specs.declared.token.TokenKind.TheVariants as kinds
-use Rattle.alg_tokens.specs.declared.token.Word.TheVariants as words
-use Rattle.alg_terms.specs.Limits.{MAX_LITERAL}
 use Rattle.alg_terms.specs.Kinds.{IsDomain}
+use Rattle.alg_reader.specs.declared.certificates.Combined.{Combined}
+use Rattle.alg_reader.specs.declared.place.Place.{Place}
+use Rattle.alg_reader.specs.declared.place.Place.TheVariants as places
+use Rattle.alg_reader.specs.declared.raw.RawAnswer.{RawAnswer}
+use Rattle.alg_reader.specs.declared.raw.RawAnswer.TheVariants as answers
+use Rattle.alg_reader.specs.declared.raw.RawFactor.{RawFactor}
+use Rattle.alg_reader.specs.declared.raw.RawMono.{RawMono}
+use Rattle.alg_reader.specs.declared.raw.RawNumber.{RawNumber}
 use Rattle.alg_reader.specs.declared.raw.RawTerm.{RawTerm}
 use Rattle.alg_reader.specs.declared.raw.RawUse.{RawUse}
 use Rattle.alg_reader.specs.declared.raw.RawMethod.{RawMethod}
@@ -15,10 +20,13 @@ use Rattle.alg_reader.specs.Kinds.{variant, code}
 use Rattle.alg_reader.specs.Forms as rules
 use Rattle.alg_reader.specs.Forms.{Rule, Form, a, seq, alt, opt, many, rule, Tree, token, pair, left, right, none, some, end, more, node, spelled}
 use Rattle.alg_reader.specs.TermMeaning.{Value}
-use Rattle.alg_reader.specs.TermMeaning.{one, two, nothing, term, used, method}
+use Rattle.alg_reader.specs.TermMeaning.{one, two, nothing, term, used, method, factor, mono, int, answer, combined}
 use Rattle.alg_reader.specs.Meaning.{kind_value}
 use Rattle.alg_reader.specs.RawTerms.{names_in, literals_in, exponents_in}
-use Rattle.alg_reader.specs.WellRead.{IsNameAt, IsNumeral, IsWellUse, IsWellMethod, word_of, uses_in}
+use Rattle.alg_reader.specs.WellRead.{IsNameAt, IsInRange, IsNumeral, IsInteger, IsWellMono, IsWellAnswer, IsWellUse, IsWellMethod, uses_in}
+use Rattle.alg_reader.specs.Places.{MayStand}
+use Rattle.alg_reader.specs.RawMonos.{names_in_factor, exponents_in_factor}
+use Rattle.alg_reader.specs.RawNodes.{number_of}
 use Rattle.alg_reader.proofs.Boundaries.{IsTokenAt}
 
 pub all_append : {X : Type 0} (P : X → Type 0) (xs ys : List X) → AllByRecursion P xs → AllByRecursion P ys
@@ -49,9 +57,10 @@ abbrev pub EachOf : (Value → List Token → Type 0) → List Value → List To
 EachOf P [] ts = ts ≡ []
 EachOf P (x ∷ xs) ts = (us : List Token) × (vs : List Token) × (ts ≡ us ++ vs) × P x us × EachOf P xs vs
 
--- a literal is in range
-abbrev pub IsInRange : ℤ → Type 0
-IsInRange n = (pos 0 ≤ℤ n) × (n ≤ℤ MAX_LITERAL)
+-- a factor that was read
+pub record IsWellFactor (text : List ℕ) (f : RawFactor) : Type 0 where
+  pub names : AllByRecursion (IsNameAt text) (names_in_factor f)
+  pub exponents : AllByRecursion IsNumeral (exponents_in_factor f)
 
 -- the names, literals and exponents of a term that was read, before what is too deep is left out
 pub record IsFoundTerm (text : List ℕ) (t : RawTerm) : Type 0 where
@@ -59,9 +68,11 @@ pub record IsFoundTerm (text : List ℕ) (t : RawTerm) : Type 0 where
   pub literals : AllByRecursion IsInRange (literals_in t)
   pub exponents : AllByRecursion IsNumeral (exponents_in t)
 
--- the token is the method's word
-abbrev pub HasWord : Token → RawMethod → Type 0
-HasWord w m = w.kind ≡ kinds.Word (word_of m)
+-- an answer that was read, before what is too deep is left out
+abbrev pub IsFoundAnswer : List ℕ → RawAnswer → Type 0
+IsFoundAnswer text (answers.Proved conditions) = AllByRecursion (IsFoundTerm text) conditions
+IsFoundAnswer text (answers.ZeroDenominator denominator) = IsFoundTerm text denominator
+IsFoundAnswer text said = IsWellAnswer text said
 
 abbrev pub IsFoundKind : List ℕ → RawKind → Type 0
 IsFoundKind text raws.End = ⊥
@@ -72,20 +83,44 @@ IsFoundKind text (raws.Vars names sort) = (1 ≤ length names) × AllByRecursion
 IsFoundKind text (raws.Hyp name e) = IsNameAt text name × IsFoundTerm text e.left × IsFoundTerm text e.right
 IsFoundKind text (raws.Goal e way place) = IsFoundTerm text e.left × IsFoundTerm text e.right × (e.nonzero ≡ false)
     × IsWellMethod text way
+IsFoundKind text (raws.Answer said) = IsFoundAnswer text said
+IsFoundKind text (raws.Line x m i b n j d) = IsNumeral x × IsWellMono text m × IsNumeral i × IsInteger b
+    × IsWellMono text n × IsNumeral j × IsNumeral d
+IsFoundKind text (raws.Step x b n j d) = IsNumeral x × IsInteger b × IsWellMono text n × IsNumeral j × IsNumeral d
 
--- each name is a token, the method's word stands behind `by`, and each use is a token behind it
+-- each name is a token, and each use is one beside the method's word
 abbrev pub IsSpelledKind : RawKind → List Token → Type 0
 IsSpelledKind (raws.Vars names sort) ts = length names ≤ length ts
-IsSpelledKind (raws.Goal e way place) ts = (front : List Token) × (b : Token) × (w : Token) × (back : List Token)
-    × (ts ≡ front ++ b ∷ w ∷ back) × (b.kind ≡ kinds.Word words.By) × HasWord w way × (uses_in way ≤ length back)
+IsSpelledKind (raws.Goal e way place) ts = 1 + uses_in way ≤ length ts
 IsSpelledKind _ ts = Unit {0}
 
 -- what tokens mean by a rule
 abbrev pub TermFound : List ℕ → Value → Type 0
 TermFound text x = (t : RawTerm) × (x ≡ term t) × IsFoundTerm text t
 
+-- a statement that may stand at a place
+abbrev pub StandsFound : Place → List ℕ → Value → List Token → Type 0
+StandsFound site text x ts = (k : RawKind) × (x ≡ kind_value k) × MayStand site k × IsFoundKind text k
+    × IsSpelledKind k ts
+
 abbrev pub KindFound : List ℕ → Value → List Token → Type 0
-KindFound text x ts = (k : RawKind) × (x ≡ kind_value k) × IsFoundKind text k × IsSpelledKind k ts
+KindFound = StandsFound places.Plain
+
+-- a monomial and its factors
+abbrev pub MonoFound : List ℕ → Value → Type 0
+MonoFound text x = (m : RawMono) × (x ≡ mono m) × IsWellMono text m
+
+abbrev pub FactorFound : List ℕ → Value → Type 0
+FactorFound text x = (f : RawFactor) × (x ≡ factor f) × IsWellFactor text f
+
+-- an answer
+abbrev pub AnswerFound : List ℕ → Value → Type 0
+AnswerFound text x = (said : RawAnswer) × (x ≡ answer said) × IsFoundAnswer text said
+
+-- what a line and a step end with
+abbrev pub CombinedFound : List ℕ → Value → Type 0
+CombinedFound text x = (c : Combined) × (x ≡ combined c) × IsNumeral c.first × IsInteger c.b
+    × IfSome c.n (IsWellMono text) × IsNumeral c.j × IfSome c.d IsNumeral
 
 abbrev pub RuleFound : List ℕ → Rule → Value → List Token → Type 0
 RuleFound text rules.Sum x ts = TermFound text x
@@ -94,8 +129,27 @@ RuleFound text rules.Unary x ts = TermFound text x
 RuleFound text rules.Power x ts = TermFound text x
 RuleFound text rules.Leaf x ts = TermFound text x
 RuleFound text rules.Use x ts = (u : RawUse) × (x ≡ used u) × IsWellUse text u × (1 ≤ length ts)
-RuleFound text rules.Method x ts = (m : RawMethod) × (place : ℕ) × (w : Token) × (back : List Token)
-    × (x ≡ method m place) × (ts ≡ w ∷ back) × IsWellMethod text m × HasWord w m × (uses_in m ≤ length back)
+RuleFound text rules.Method x ts = (m : RawMethod) × (place : ℕ) × (x ≡ method m place) × IsWellMethod text m
+    × (1 + uses_in m ≤ length ts)
+RuleFound text rules.Atom x ts = FactorFound text x
+RuleFound text rules.Factor x ts = FactorFound text x
+RuleFound text rules.Factors x ts = MonoFound text x
+RuleFound text rules.Mono x ts = MonoFound text x
+RuleFound text rules.Int x ts = (n : RawNumber) × (x ≡ int n) × IsInteger n
+RuleFound text rules.Condition x ts = TermFound text x
+RuleFound text rules.Constant x ts = (n : Token) × (x ≡ one n) × IsInRange (number_of n.kind)
+RuleFound text rules.Conditional x ts = AnswerFound text x
+RuleFound text rules.Certified x ts = AnswerFound text x
+RuleFound text rules.Proved x ts = AnswerFound text x
+RuleFound text rules.No x ts = AnswerFound text x
+RuleFound text rules.ZeroDenominator x ts = AnswerFound text x
+RuleFound text rules.NoneUpTo x ts = AnswerFound text x
+RuleFound text rules.GaveUp x ts = AnswerFound text x
+RuleFound text rules.Stopped x ts = AnswerFound text x
+RuleFound text (rules.Combined format) x ts = CombinedFound text x
+RuleFound text (rules.Line format) x ts = StandsFound places.Lines text x ts
+RuleFound text (rules.Step format) x ts = StandsFound places.Steps text x ts
+RuleFound text (rules.Statement site) x ts = StandsFound site text x ts
 RuleFound text _ x ts = KindFound text x ts
 
 -- what tokens mean by a form

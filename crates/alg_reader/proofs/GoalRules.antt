@@ -1,22 +1,20 @@
 -- What the rules of methods, goals and statements make of what their parts mean.
-use Rattle.std.proofs.Common.{◌≡◌, ℕ, inl, inr, List, [], ◌∷◌, ◌++◌, length, refl, ap, sym, ◌∙◌, subst, arith, append_assoc, length-append}
+use Rattle.std.proofs.Common.{ℕ, inl, inr, List, ◌++◌, length, refl, ap, sym, ◌∙◌, subst, arith, length-append}
 use Rattle.alg_tokens.specs.declared.token.Token.{Token}
 use Rattle.alg_tokens.specs.declared.token.TokenKind.{TokenKind}
 use Rattle.alg_tokens.specs.declared.token.TokenKind.TheVariants as kinds
 use Rattle.alg_tokens.specs.declared.token.Word.TheVariants as words
-use Rattle.alg_reader.specs.declared.raw.RawKind.{RawKind}
 use Rattle.alg_reader.specs.declared.raw.RawKind.TheVariants as raws
 use Rattle.alg_reader.specs.Forms as rules
 use Rattle.alg_reader.specs.Forms.{Rule, Form, a, seq, alt, opt, many, rule, Tree, token, pair, left, right, none, some, end, more, node, spelled}
-use Rattle.alg_reader.specs.Grammar.{grammar, name, sign, body}
+use Rattle.alg_reader.specs.Grammar.{grammar, sign}
 use Rattle.alg_reader.specs.TermMeaning.{Value}
 use Rattle.alg_reader.specs.TermMeaning.{one, two, term}
 use Rattle.alg_reader.specs.Meaning.{value, act}
 use Rattle.alg_reader.specs.PartMeaning.{sides, method_word, nsatz_of}
 use Rattle.alg_reader.specs.WellRead.{IsWellMethod}
-use Rattle.alg_reader.proofs.Variants.{is_by, is_nsatz}
-use Rattle.alg_reader.proofs.Found.{IsSpelledKind, KindFound, RuleFound, Found}
-use Rattle.alg_reader.proofs.Rules.{equal_words, method_words}
+use Rattle.alg_reader.proofs.Found.{KindFound, RuleFound, Found}
+use Rattle.alg_reader.proofs.Rules.{equal_words, no_uses}
 use Rattle.alg_reader.proofs.UseRules.{options_found}
 
 -- a word of a method has no options
@@ -34,31 +32,26 @@ word_well text (kinds.Word w) = elim w as (λ w. IsWellMethod text (method_word 
 well_word : (text : List ℕ) (w : Token) → IsWellMethod text (method_word w.kind)
 well_word text w = word_well text w.kind
 
+-- a method of one word
+one_word : (text : List ℕ) (x : Value) (ts : List Token) (k : TokenKind) → Found text (a k) x ts
+    → RuleFound text rules.Method (act rules.Method x) ts
+unfolding grammar act
+one_word text x ts k (w, ew, sw, _, _) =
+    let P : Value → Type 0 = λ v. RuleFound text rules.Method (act rules.Method v) ts in
+    let none = no_uses w.kind in
+    let long = ap length sw in
+    subst P (sym ew) (method_word w.kind, w.start, refl, well_word text w, omega arith)
+
 pub method_found : (text : List ℕ) (x : Value) (ts : List Token) → Found text (grammar rules.Method) x ts
     → RuleFound text rules.Method (act rules.Method x) ts
 unfolding grammar act
-method_found text x ts (inl (y, z, us, vs, e, s, (w, ew, sw, k, _), h)) =
-    let (well, named, few) = options_found text z vs h in
+method_found text x ts (inl (y, z, us, vs, e, s, (w, ew, sw, _, _), h)) =
+    let (well, few) = options_found text z vs h in
+    let long = ap length (s ∙ ap (λ us. us ++ vs) sw) in
     let P : Value → Type 0 = λ v. RuleFound text rules.Method (act rules.Method v) ts in
-    subst P (sym (e ∙ ap (λ v. two v z) ew)) (
-      nsatz_of z,
-      w.start,
-      w,
-      vs,
-      refl,
-      s ∙ ap (λ us. us ++ vs) sw,
-      well,
-      is_nsatz w.kind k ∙ ap (λ word. kinds.Word word) (sym named),
-      few,
-    )
-method_found text x ts (inr (inl (w, ew, sw, k, _))) =
-    let P : Value → Type 0 = λ v. RuleFound text rules.Method (act rules.Method v) ts in
-    let (word, few) = method_words w 0 (inl k) in
-    subst P (sym ew) (method_word w.kind, w.start, w, [], refl, sw, well_word text w, word, few)
-method_found text x ts (inr (inr (w, ew, sw, k, _))) =
-    let P : Value → Type 0 = λ v. RuleFound text rules.Method (act rules.Method v) ts in
-    let (word, few) = method_words w 0 (inr k) in
-    subst P (sym ew) (method_word w.kind, w.start, w, [], refl, sw, well_word text w, word, few)
+    subst P (sym (e ∙ ap (λ v. two v z) ew)) (nsatz_of z, w.start, refl, well, omega arith)
+method_found text x ts (inr (inl h)) = one_word text x ts (kinds.Word words.Ring) h
+method_found text x ts (inr (inr h)) = one_word text x ts (kinds.Word words.Field) h
 
 pub goal_found : (text : List ℕ) (x : Value) (ts : List Token) → Found text (grammar rules.Goal) x ts
     → KindFound text (act rules.Goal x) ts
@@ -102,59 +95,25 @@ goal_found text x ts (
           vs4,
           e4,
           s4,
-          (b, eb, sb, kb, _),
-          (m, place, v, back, em, sv, well, named, few),
+          (b, eb, _, _, _),
+          (m, place, em, well, few),
         ),
       ),
     ),
   ),
 ) =
     let P : Value → Type 0 = λ v. KindFound text (act rules.Goal v) ts in
-    let front = us ++ (us1 ++ (us2 ++ us3)) in
-    let tail : vs4 ≡ v ∷ back = sv in
-    let whole : ts ≡ front ++ b ∷ v ∷ back = s ∙ ap (λ r. us ++ r) (s1 ∙ ap (λ r. us1 ++ r) (s2 ∙ ap (λ r. us2 ++ r)
-    (s3 ∙ ap (λ r. us3 ++ r) (s4 ∙ ap (λ r. r ++ vs4) sb ∙ ap (λ r. b ∷ r) tail)
-    ) ∙ sym (append_assoc us2 us3 (b ∷ v ∷ back))) ∙ sym (append_assoc us1 (us2 ++ us3) (b ∷ v ∷ back)))
-    ∙ sym (append_assoc us (us1 ++ (us2 ++ us3)) (b ∷ v ∷ back)) in
+    let parts = ap length s ∙ length-append us vs in
+    let parts1 = ap length s1 ∙ length-append us1 vs1 in
+    let parts2 = ap length s2 ∙ length-append us2 vs2 in
+    let parts3 = ap length s3 ∙ length-append us3 vs3 in
+    let parts4 = ap length s4 ∙ length-append us4 vs4 in
     subst P (sym (e ∙ ap (λ v. two v z) ew ∙ ap (two (one w)) (e1 ∙ ap (λ v. two v z1) et ∙ ap (two (term t))
     (e2 ∙ ap (λ v. two v z2) eq ∙ ap (two (one q)) (e3 ∙ ap (λ v. two v z3) eu ∙ ap (two (term u))
     (e4 ∙ ap (λ v. two v z4) eb ∙ ap (two (one b)) em)))))) (
       raws.Goal (sides t q u) m place,
       refl,
+      tt,
       (ft, fu, equal_words q.kind kq, well),
-      (front, b, v, back, whole, is_by b.kind kb, named, few),
+      omega arith,
     )
-
--- a dot behind what a kind of statement spells
-spelled_more : (k : RawKind) (us vs ts : List Token) → ts ≡ us ++ vs → IsSpelledKind k us → IsSpelledKind k ts
-spelled_more raws.End us vs ts e h = tt
-spelled_more (raws.Sort kind name char0) us vs ts e h = tt
-spelled_more (raws.Hom name from to) us vs ts e h = tt
-spelled_more (raws.Vars names sort) us vs ts e h = let long = ap length e ∙ length-append us vs in omega arith
-spelled_more (raws.Hyp name sides) us vs ts e h = tt
-spelled_more (raws.Goal sides way place) us vs ts e (front, b, w, back, s, by, named, few) = (
-  front,
-  b,
-  w,
-  back ++ vs,
-  e ∙ ap (λ r. r ++ vs) s ∙ append_assoc front (b ∷ w ∷ back) vs,
-  by,
-  named,
-  let long = length-append back vs in omega arith,
-)
-
-body_found : (text : List ℕ) (x : Value) (ts : List Token) → Found text body x ts → KindFound text x ts
-body_found text x ts (inl h) = h
-body_found text x ts (inr (inl h)) = h
-body_found text x ts (inr (inr (inl h))) = h
-body_found text x ts (inr (inr (inr (inl h)))) = h
-body_found text x ts (inr (inr (inr (inr (inl h))))) = h
-body_found text x ts (inr (inr (inr (inr (inr h))))) = h
-
-pub statement_found : (text : List ℕ) (x : Value) (ts : List Token) → Found text (grammar rules.Statement) x ts
-    → KindFound text (act rules.Statement x) ts
-unfolding grammar act
-statement_found text x ts (y, z, us, vs, e, s, h, (d, ed, _, _, _)) =
-    let (k, ek, found, spells) = body_found text y us h in
-    let P : Value → Type 0 = λ v. KindFound text (act rules.Statement v) ts in
-    subst P (sym (e ∙ ap (two y) ed)) (k, ek, found, spelled_more k us vs ts s spells)

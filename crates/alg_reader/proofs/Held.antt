@@ -1,5 +1,5 @@
 -- What is held of a node is told by what is held of its parts.
-use Rattle.std.proofs.Common.{◌≡◌, ℕ, List, [], ◌∷◌, ◌+◌, ◌≤◌, ◌<◌, min, max, nat_lt, cond, true, false, Option, None, Some, refl, sym, ap, ◌∙◌, arith, pos}
+use Rattle.std.proofs.Common.{◌≡◌, ℕ, List, [], ◌∷◌, ◌+◌, ◌≤◌, ◌<◌, min, max, nat_lt, cond, true, false, Option, None, Some, refl, sym, ap, ◌∙◌, subst, arith, pos}
 use Rattle.std.proofs.lemmas.Bool.Decides.{nat_tests}
 use Rattle.std.specs.Option.{option_or}
 use Rattle.alg_tokens.specs.declared.token.Token.{Token}
@@ -11,6 +11,8 @@ use Rattle.alg_reader.specs.declared.parts.HeldTerm.{HeldTerm}
 use Rattle.alg_reader.specs.declared.raw.RawTerm.{RawTerm}
 use Rattle.alg_reader.specs.declared.raw.RawNode.{RawNode}
 use Rattle.alg_reader.specs.declared.raw.RawNode.TheVariants.{Int, Neg, Add, Sub, Mul, Div, Pow, Hom}
+use Rattle.alg_reader.specs.declared.raw.RawAnswer.{RawAnswer}
+use Rattle.alg_reader.specs.declared.raw.RawAnswer.TheVariants as answers
 use Rattle.alg_reader.specs.declared.raw.RawEquation.{RawEquation}
 use Rattle.alg_reader.specs.declared.raw.RawKind.{RawKind}
 use Rattle.alg_reader.specs.declared.raw.RawKind.TheVariants as raws
@@ -20,7 +22,7 @@ use Rattle.alg_reader.specs.RawTerms.{fold_under, fold_raw, node_depth, depth_of
 use Rattle.alg_reader.specs.TooDeep.{node_depths, node_over, first_too_deep, kept}
 use Rattle.alg_reader.specs.RawNodes.{at, joined, binary, image, opposite, opposites, power_of, literal, variable, span_of, numeral_of}
 use Rattle.alg_reader.specs.PartMeaning.{sides}
-use Rattle.alg_reader.specs.Parts.{held, held_statement, HasNoTerms, left_out, over, leaf_part, binary_part, image_part, opposite_part, opposites_part, power_part}
+use Rattle.alg_reader.specs.Parts.{held, held_statement, HasNoTerms, HasNoTermsIn, left_out, over, leaf_part, binary_part, image_part, opposite_part, opposites_part, power_part}
 use Rattle.alg_reader.proofs.Built.{fold_under-Neg, fold_under-Add, fold_under-Sub, fold_under-Mul, fold_under-Div, fold_under-Pow, fold_under-Hom}
 use Rattle.alg_reader.proofs.Depths.{depth_agrees}
 
@@ -182,6 +184,23 @@ power_is caret r p n t e hp = e ∙ ap (λ x. power_part caret x n) hp ∙ sym (
 
 -- ---- statements
 
+-- all of an answer without terms is kept
+plain_answer : (said : RawAnswer) → HasNoTermsIn said
+    → record { kind = raws.Answer said; too_deep = None } ≡ held_statement (raws.Answer said)
+unfolding held_statement
+plain_answer (answers.Proved conditions) h =
+    let P : List RawTerm → Type 0 = λ ts. record { kind = raws.Answer (answers.Proved ts); too_deep = None }
+    ≡ held_statement (raws.Answer (answers.Proved ts)) in
+    subst P (sym h) refl
+plain_answer (answers.Certified version power constants) h = refl
+plain_answer (answers.No m left right) h = refl
+plain_answer (answers.ZeroDenominator denominator) h = absurd h
+plain_answer (answers.NoneUpTo power) h = refl
+plain_answer (answers.GaveUp limit) h = refl
+plain_answer answers.Range h = refl
+plain_answer answers.Degree h = refl
+plain_answer answers.Atoms h = refl
+
 -- all of a statement without terms is kept
 pub plain_said : (kind : RawKind) → HasNoTerms kind → record { kind = kind; too_deep = None } ≡ held_statement kind
 unfolding held_statement
@@ -191,6 +210,9 @@ plain_said (raws.Hom name from to) h = refl
 plain_said (raws.Vars names sort) h = refl
 plain_said (raws.Hyp name e) h = absurd h
 plain_said (raws.Goal e way place) h = absurd h
+plain_said (raws.Answer said) h = plain_answer said h
+plain_said (raws.Line a m i b n j d) h = refl
+plain_said (raws.Step a b n j d) h = refl
 
 pub hyp_said : (name : Span) (relation : Token) (e : RawEquation) (first : Option ℕ) (p q : HeldTerm) (t u : RawTerm)
     → p ≡ held t → q ≡ held u → e ≡ sides p.term relation q.term → first ≡ option_or p.too_deep q.too_deep

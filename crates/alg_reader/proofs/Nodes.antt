@@ -1,5 +1,5 @@
 -- Nodes and terms of tokens of a text: their names are names, and their numbers in range.
-use Rattle.std.proofs.Common.{◌≡◌, ℕ, ◌⊎◌, inl, inr, List, [], ◌∷◌, ◌++◌, refl, ap, sym, ◌∙◌, subst, arith, ℤ, pos, ◌≤ℤ◌}
+use Rattle.std.proofs.Common.{◌≡◌, ℕ, inl, inr, List, [], ◌∷◌, ◌++◌, refl, ap, sym, ◌∙◌, subst, arith, ℤ, pos, ◌≤ℤ◌}
 use Rattle.std.specs.List.{AllByRecursion}
 use Rattle.std.proofs.lemmas.Int.{ints}
 use Rattle.alg_tokens.specs.declared.token.Token.{Token}
@@ -17,11 +17,11 @@ use Rattle.alg_reader.specs.TermMeaning.{Value, chain, act_sum}
 use Rattle.alg_reader.specs.RawNodes.{at, span_of, number_of, numeral_of, joined, binary, literal, variable, image, opposite, power_of}
 use Rattle.alg_reader.specs.TermMeaning.{one, two, term}
 use Rattle.alg_reader.specs.RawTerms.{Node, fold_raw}
-use Rattle.alg_reader.specs.WellRead.{IsNameAt, IsNumeral, bytes_at}
+use Rattle.alg_reader.specs.WellRead.{IsInRange, IsNameAt, IsNumeral, bytes_at}
 use Rattle.alg_reader.proofs.Built.{fold_under-Var, fold_under-Int, fold_under-Neg, fold_under-Add, fold_under-Sub, fold_under-Mul, fold_under-Div, fold_under-Pow, fold_under-Hom}
 use Rattle.alg_reader.proofs.Boundaries.{IsTokenAt}
-use Rattle.alg_reader.proofs.Variants.{is_name, is_numeral}
-use Rattle.alg_reader.proofs.Found.{all_append, row, EachOf, IsInRange, IsFoundTerm, TermFound, Found}
+use Rattle.alg_reader.proofs.Variants.{IsOfNumerals, is_name, is_numeral}
+use Rattle.alg_reader.proofs.Found.{all_append, row, EachOf, IsFoundTerm, TermFound, Found}
 
 -- ---- one token
 
@@ -43,25 +43,21 @@ range_of bytes kind (value, is) spelled within =
       small,
     )) spelled within
 
+-- a numeral of the text, in range
+abbrev pub NumeralFound : List ℕ → Value → Type 0
+NumeralFound text x = (t : Token) × (x ≡ one t) × IsInRange (number_of t.kind) × IsOfNumerals (code t)
+    × IsTokenAt text t
+
+numeral_found : (text : List ℕ) (x : Value) (t : Token) → x ≡ one t → IsOfNumerals (code t)
+    → IsTokenAt text t → NumeralFound text x
+numeral_found text x t e k here =
+    (t, e, range_of (bytes_at text (span_of t)) t.kind (is_numeral t.kind k) here.spelled here.within, k, here)
+
 -- a numeral is in range
-pub number_at : (text : List ℕ) (x : Value) (ts : List Token) → Found text number x ts
-    → (t : Token) × (x ≡ one t) × IsInRange (number_of t.kind) × ((1 ≡ code t) ⊎ (2 ≡ code t)) × IsTokenAt text t
-number_at text x ts (inl (t, e, _, k, here)) = (
-  t,
-  e,
-  range_of (bytes_at text (span_of t)) t.kind (is_numeral t.kind
-      (inl k)) here.spelled here.within,
-  inl k,
-  here,
-)
-number_at text x ts (inr (t, e, _, k, here)) = (
-  t,
-  e,
-  range_of (bytes_at text (span_of t)) t.kind (is_numeral t.kind
-      (inr k)) here.spelled here.within,
-  inr k,
-  here,
-)
+pub number_at : (text : List ℕ) (x : Value) (ts : List Token) → Found text number x ts → NumeralFound text x
+number_at text x ts (inl (t, e, _, k, here)) = numeral_found text x t e (inl k) here
+number_at text x ts (inr (inl (t, e, _, k, here))) = numeral_found text x t e (inr (inl k)) here
+number_at text x ts (inr (inr (t, e, _, k, here))) = numeral_found text x t e (inr (inr k)) here
 
 -- ---- nodes
 

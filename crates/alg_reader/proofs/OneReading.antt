@@ -1,16 +1,14 @@
 -- The tokens of a text from one place are one list, and no fault stands where reading goes on.
-use Rattle.std.proofs.Common.{◌≡◌, ◌≢◌, ℕ, List, [], ◌∷◌, ◌++◌, ◌⊎◌, inl, inr, refl, ap, sym, ◌∙◌, subst, append_assoc, Option, Some, None, is_none, Result, Ok, Err}
-use Rattle.alg_tokens.specs.declared.code.Code.{Code}
+use Rattle.std.proofs.Common.{◌≡◌, ◌≢◌, ℕ, List, [], ◌∷◌, ◌++◌, ◌⊎◌, inl, inr, refl, ap, sym, ◌∙◌, subst, append_assoc, Result, Ok, Err}
 use Rattle.alg_tokens.specs.declared.token.Token.{Token}
 use Rattle.alg_tokens.specs.declared.token.Refusal.{Refusal}
-use Rattle.alg_tokens.specs.declared.token.TokenKind.{TokenKind}
 use Rattle.alg_tokens.specs.declared.token.TokenKind.TheVariants as kinds
 use Rattle.alg_tokens.specs.Next.{IsNext}
 use Rattle.alg_tokens.proofs.Cuttings.{one_next}
 use Rattle.alg_reader.specs.declared.place.Place.{Place}
 use Rattle.alg_reader.specs.Forms.{Statement, rule}
 use Rattle.alg_reader.specs.Grammar.{IsBegun}
-use Rattle.alg_reader.specs.Tokens.{Unread, TokensTo, GoesPast, open_with, open_after, last_kind, stop_code, end_of}
+use Rattle.alg_reader.specs.Tokens.{TokensTo, open_with, open_after, IsOneTooMany, GoesPast, end_of}
 use Rattle.alg_reader.specs.Statements.{FaultBehind}
 use Rattle.alg_reader.proofs.Outcomes.{begun_front}
 
@@ -64,35 +62,29 @@ compare text at stop stop' (t ∷ ts) (u ∷ us) (next, _, to) (next', _, to') =
 
 -- ---- no fault stands where reading goes on
 
-pub free_at : (unread : Unread) (depth : ℕ) (last : Option TokenKind) (before : List Token) (t : Token)
-    (after : List Token)
-    → GoesPast unread depth last (before ++ t ∷ after) →
-    stop_code unread (open_after depth before) (last_kind last before) t.kind ≡ None
-free_at unread depth last [] t after past = past.0
-free_at unread depth last (b ∷ before) t after past =
-    free_at unread (open_with depth b.kind) (Some b.kind) before t after past.1
+pub free_at : (depth : ℕ) (before : List Token) (t : Token) (after : List Token)
+    → GoesPast depth (before ++ t ∷ after) → ¬ (IsOneTooMany (open_after depth before) t.kind)
+free_at depth [] t after past = past.0
+free_at depth (b ∷ before) t after past = free_at (open_with depth b.kind) before t after past.1
 
-no_stop : (found : Option Code) (why : Code) → found ≡ None → found ≡ Some why → ⊥
-no_stop found why none some = let clash = ap (λ r. is_none r) (sym none ∙ some) in cc
-
-pub goes_on_there : (unread : Unread) (site : Place) (text : List ℕ) (before ts : List Token) (t : Token)
+pub goes_on_there : (site : Place) (text : List ℕ) (before ts : List Token) (t : Token)
     (after : List Token) (stop : ℕ) (fault : Refusal)
-    → ts ≡ before ++ t ∷ after → IsNext text stop (Ok t) → t.kind ≢ kinds.End → GoesPast unread 0 None ts
-    → IsBegun (rule Statement) ts → FaultBehind unread site text before stop fault → ⊥
-goes_on_there unread site text before ts t after stop fault same next lexeme past begun (inl other) =
+    → ts ≡ before ++ t ∷ after → IsNext text stop (Ok t) → t.kind ≢ kinds.End → GoesPast 0 ts
+    → IsBegun (rule (Statement site)) ts → FaultBehind site text before stop fault → ⊥
+goes_on_there site text before ts t after stop fault same next lexeme past begun (inl other) =
     no_fault text stop t fault next other
-goes_on_there unread site text before ts t after stop fault same next lexeme past begun (inr (inl (ends, _, _))) =
+goes_on_there site text before ts t after stop fault same next lexeme past begun (inr (inl (ends, _, _))) =
     no_end text stop t next lexeme ends
-goes_on_there unread site text before ts t after stop fault same next lexeme past begun
+goes_on_there site text before ts t after stop fault same next lexeme past begun
     (inr (inr (u, other, _, inl (_, stuck)))) =
     let one = one_token text stop t u next other in
     let whole : ts ≡ (before ++ t ∷ []) ++ after = same ∙ sym (append_assoc before (t ∷ []) after) in
-    let here = begun_front (rule Statement) (before ++ t ∷ []) after (subst (IsBegun (rule Statement)) whole begun) in
-    let P : Token → Type 0 = λ x. IsBegun (rule Statement) (before ++ x ∷ []) in
+    let here = begun_front (rule (Statement site)) (before ++ t ∷ []) after
+    (subst (IsBegun (rule (Statement site))) whole begun) in
+    let P : Token → Type 0 = λ x. IsBegun (rule (Statement site)) (before ++ x ∷ []) in
     stuck (subst P one here)
-goes_on_there unread site text before ts t after stop fault same next lexeme past begun
-    (inr (inr (u, other, _, inr ((why, _, stops), _)))) =
+goes_on_there site text before ts t after stop fault same next lexeme past begun
+    (inr (inr (u, other, _, inr ((stops, _), _)))) =
     let one = one_token text stop t u next other in
-    let free = free_at unread 0 None before t after (subst (GoesPast unread 0 None) same past) in
-    let P : Token → Type 0 = λ x. stop_code unread (open_after 0 before) (last_kind None before) x.kind ≡ None in
-    no_stop _ why (subst P one free) stops
+    let P : Token → Type 0 = λ x. IsOneTooMany (open_after 0 before) x.kind in
+    free_at 0 before t after (subst (GoesPast 0) same past) (subst P (sym one) stops)

@@ -1,5 +1,5 @@
 -- Places in the tokens of a statement: the end, a token at which reading is stuck, and the dot.
-use Rattle.std.proofs.Common.{◌≡◌, ◌≢◌, ℕ, Bool, true, false, ◌&&◌, ◌==◌, not, List, [], ◌∷◌, ◌++◌, length, length-append, drop, refl, ap, sym, ◌∙◌, arith, Option, Some, Ok, eq-eqb}
+use Rattle.std.proofs.Common.{◌≡◌, ◌≢◌, ℕ, Bool, true, false, ◌&&◌, ◌==◌, not, List, [], ◌∷◌, ◌++◌, length, length-append, drop, refl, ap, sym, ◌∙◌, arith, Ok, eq-eqb}
 use Rattle.alg_tokens.specs.declared.token.Token.{Token}
 use Rattle.alg_tokens.specs.declared.token.TokenKind.{TokenKind}
 use Rattle.alg_tokens.specs.declared.token.TokenKind.TheVariants as kinds
@@ -8,8 +8,12 @@ use Rattle.alg_tokens.specs.Next.{IsNext}
 use Rattle.alg_reader.specs.Kinds.{variant, code}
 use Rattle.alg_reader.specs.Forms as rules
 use Rattle.alg_reader.specs.Forms.{Rule, Statement, Form, a, seq, alt, opt, many, rule, Tree, token, pair, left, right, none, some, end, more, node, spelled}
-use Rattle.alg_reader.specs.Grammar.{grammar, Fits, body}
-use Rattle.alg_reader.specs.Tokens.{Unread, TokensTo, open_with, GoesPast, HasNoDot}
+use Rattle.alg_reader.specs.declared.format.Format.{Format}
+use Rattle.alg_reader.specs.declared.format.Format.TheVariants as formats
+use Rattle.alg_reader.specs.declared.place.Place.{Place}
+use Rattle.alg_reader.specs.declared.place.Place.TheVariants as places
+use Rattle.alg_reader.specs.Grammar.{grammar, Fits, said_at}
+use Rattle.alg_reader.specs.Tokens.{TokensTo, open_with, GoesPast, HasNoDot}
 use Rattle.alg_reader.proofs.Variants.{is_dot}
 
 -- ---- places in lists of tokens
@@ -51,13 +55,9 @@ tokens_split text at stop [] after t (next, lexeme, _) = (at, refl, next, lexeme
 tokens_split text at stop (s ∷ seen) after t (next, lexeme, to) =
     let (mid, front, here, is) = tokens_split text s.stop stop seen after t to in (mid, (next, lexeme, front), here, is)
 
-pub past_split : (unread : Unread) (depth : ℕ) (last : Option TokenKind) (seen after : List Token)
-    → GoesPast unread depth last (seen ++ after) → GoesPast unread depth last seen
-past_split unread depth last [] after past = tt
-past_split unread depth last (s ∷ seen) after (free, past) = (
-  free,
-  past_split unread (open_with depth s.kind) (Some s.kind) seen after past,
-)
+pub past_split : (depth : ℕ) (seen after : List Token) → GoesPast depth (seen ++ after) → GoesPast depth seen
+past_split depth [] after past = tt
+past_split depth (s ∷ seen) after (free, past) = (free, past_split (open_with depth s.kind) seen after past)
 
 pub dot_split : (seen after : List Token) → HasNoDot (seen ++ after) → HasNoDot seen
 dot_split [] after clear = tt
@@ -77,17 +77,37 @@ prefix_of (x ∷ before) (s ∷ seen) after last t same =
 -- ---- the dot that ends a statement
 
 pub avoids : Form → Bool
-avoids (a k) = not (variant k == 4)
+avoids (a k) = not (variant k == 5)
 avoids (seq f g) = avoids f && avoids g
 avoids (alt f g) = avoids f && avoids g
 avoids (opt f) = avoids f
 avoids (many f) = avoids f
-avoids (rule rules.Statement) = false
+avoids (rule (rules.Statement site)) = false
 avoids (rule r) = true
+
+combined_avoids : (format : Format) → avoids (grammar (rules.Combined format)) ≡ true
+unfolding grammar avoids
+combined_avoids formats.One = refl
+combined_avoids formats.Two = refl
+
+line_avoids : (format : Format) → avoids (grammar (rules.Line format)) ≡ true
+unfolding grammar avoids
+line_avoids formats.One = refl
+line_avoids formats.Two = refl
+
+said_avoids : (site : Place) → avoids (said_at site) ≡ true
+unfolding avoids
+said_avoids places.Plain = refl
+said_avoids places.Start = refl
+said_avoids places.AfterGoal = refl
+said_avoids places.Lines = refl
+said_avoids places.Steps = refl
+said_avoids places.LinesTwo = refl
+said_avoids places.StepsTwo = refl
 
 pub rule_avoids : (r : Rule) → avoids (rule r) ≡ true → avoids (grammar r) ≡ true
 unfolding grammar avoids
-rule_avoids rules.Statement h = cc
+rule_avoids (rules.Statement site) h = cc
 rule_avoids rules.Ring h = refl
 rule_avoids rules.Sort h = refl
 rule_avoids rules.Hom h = refl
@@ -101,6 +121,24 @@ rule_avoids rules.Product h = refl
 rule_avoids rules.Unary h = refl
 rule_avoids rules.Power h = refl
 rule_avoids rules.Leaf h = refl
+rule_avoids rules.Atom h = refl
+rule_avoids rules.Factor h = refl
+rule_avoids rules.Factors h = refl
+rule_avoids rules.Mono h = refl
+rule_avoids rules.Int h = refl
+rule_avoids rules.Condition h = refl
+rule_avoids rules.Constant h = refl
+rule_avoids rules.Conditional h = refl
+rule_avoids rules.Certified h = refl
+rule_avoids rules.Proved h = refl
+rule_avoids rules.No h = refl
+rule_avoids rules.ZeroDenominator h = refl
+rule_avoids rules.NoneUpTo h = refl
+rule_avoids rules.GaveUp h = refl
+rule_avoids rules.Stopped h = refl
+rule_avoids (rules.Combined format) h = combined_avoids format
+rule_avoids (rules.Line format) h = line_avoids format
+rule_avoids (rules.Step format) h = refl
 
 pub both_avoid : (x y : Bool) → (x && y) ≡ true → (x ≡ true) × (y ≡ true)
 both_avoid true y h = (refl, h)
@@ -110,11 +148,11 @@ pub no_dot_append : (xs ys : List Token) → HasNoDot xs → HasNoDot ys → Has
 no_dot_append [] ys clear others = others
 no_dot_append (x ∷ xs) ys (first, clear) others = (first, no_dot_append xs ys clear others)
 
-pub token_no_dot : (k : TokenKind) (t : Token) → not (variant k == 4) ≡ true → variant k ≡ code t
+pub token_no_dot : (k : TokenKind) (t : Token) → not (variant k == 5) ≡ true → variant k ≡ code t
     → t.kind ≢ kinds.Sign signs.Dot
 token_no_dot k t h fits is =
-    let four : code t ≡ 4 = ap variant is in
-    let same : (variant k == 4) ≡ true = eq-eqb (variant k) 4 (fits ∙ four) in
+    let four : code t ≡ 5 = ap variant is in
+    let same : (variant k == 5) ≡ true = eq-eqb (variant k) 5 (fits ∙ four) in
     let flip = ap not same in
     cc
 
@@ -138,13 +176,13 @@ abbrev pub EndsInDot : List Token → Type 0
 EndsInDot ts = (front : List Token) × (d : Token) × (ts ≡ front ++ d ∷ []) × (d.kind ≡ kinds.Sign signs.Dot)
     × HasNoDot front
 
-pub body_dot : (w : Tree) → Fits (seq body (a (kinds.Sign signs.Dot))) w → EndsInDot (spelled w)
-unfolding avoids
-body_dot (pair v (token d)) fits = (spelled v, d, refl, is_dot d.kind fits.1, no_dot body v refl fits.0)
-body_dot (pair v _) fits = absurd fits.1
-body_dot _ fits = absurd fits
+said_dot : (site : Place) (w : Tree) → Fits (seq (said_at site) (a (kinds.Sign signs.Dot))) w → EndsInDot (spelled w)
+said_dot site (pair v (token d)) fits =
+    (spelled v, d, refl, is_dot d.kind fits.1, no_dot (said_at site) v (said_avoids site) fits.0)
+said_dot site (pair v _) fits = absurd fits.1
+said_dot site _ fits = absurd fits
 
-pub statement_dot : (v : Tree) → Fits (rule Statement) v → EndsInDot (spelled v)
+pub statement_dot : (site : Place) (v : Tree) → Fits (rule (Statement site)) v → EndsInDot (spelled v)
 unfolding grammar
-statement_dot (node q w) fits = body_dot w fits.1
-statement_dot _ fits = absurd fits
+statement_dot site (node q w) fits = said_dot site w fits.1
+statement_dot site _ fits = absurd fits

@@ -1,5 +1,5 @@
 -- What the rules of terms and of the words of sorts and methods make of what their parts mean.
-use Rattle.std.proofs.Common.{◌≡◌, ℕ, ◌⊎◌, inl, inr, false, List, ◌≤◌, refl, ap, sym, ◌∙◌, subst, arith}
+use Rattle.std.proofs.Common.{◌≡◌, ℕ, ◌⊎◌, inl, inr, false, List, refl, ap, sym, ◌∙◌, subst, arith}
 use Rattle.alg_tokens.specs.declared.token.Token.{Token}
 use Rattle.alg_tokens.specs.declared.token.TokenKind.{TokenKind}
 use Rattle.alg_tokens.specs.declared.token.TokenKind.TheVariants as kinds
@@ -15,11 +15,11 @@ use Rattle.alg_reader.specs.TermMeaning.{Value, named, leaf_one, leaf_two, act_u
 use Rattle.alg_reader.specs.RawNodes.{literal, variable, image, opposite, power_of, is_unequal}
 use Rattle.alg_reader.specs.PartMeaning.{sort_word, method_word}
 use Rattle.alg_reader.specs.TermMeaning.{one, two, term}
-use Rattle.alg_reader.specs.WellRead.{word_of, uses_in}
+use Rattle.alg_reader.specs.WellRead.{uses_in}
 use Rattle.alg_reader.proofs.Nodes.{name_at, number_at, opposite_found, power_found, variable_found, image_found, literal_found}
 use Rattle.alg_reader.proofs.Boundaries.{IsTokenAt}
-use Rattle.alg_reader.proofs.Variants.{is_name, is_numeral, is_paren, is_ring, is_field}
-use Rattle.alg_reader.proofs.Found.{HasWord, IsFoundTerm, TermFound, Found}
+use Rattle.alg_reader.proofs.Variants.{is_name, is_numeral, is_paren}
+use Rattle.alg_reader.proofs.Found.{IsFoundTerm, TermFound, Found}
 
 -- ---- the rules of terms
 
@@ -124,22 +124,14 @@ domain_words (kinds.Word word) h = elim word as (λ w. (variant (kinds.Word word
       | _ ↦ λ e. tt
     ] h
 
--- the word of a method that is not nsatz, and its uses
-IsPlainWord : TokenKind → Type 0
-IsPlainWord kind = (kind ≡ kinds.Word (word_of (method_word kind))) × (uses_in (method_word kind) ≤ 0)
-
-plain_ring : IsPlainWord (kinds.Word words.Ring)
-unfolding IsPlainWord
-plain_ring = (refl, omega arith)
-
-plain_field : IsPlainWord (kinds.Word words.Field)
-unfolding IsPlainWord
-plain_field = (refl, omega arith)
-
-pub method_words : (w : Token) (n : ℕ) → (variant (kinds.Word words.Ring) ≡ code w) ⊎ (variant (kinds.Word words.Field)
-    ≡ code w) → HasWord w (method_word w.kind) × (uses_in (method_word w.kind) ≤ n)
-unfolding IsPlainWord
-method_words w n (inl h) =
-    let (word, few) = subst IsPlainWord (sym (is_ring w.kind h)) plain_ring in (word, omega arith)
-method_words w n (inr h) =
-    let (word, few) = subst IsPlainWord (sym (is_field w.kind h)) plain_field in (word, omega arith)
+-- a word other than nsatz has no uses
+pub no_uses : (kind : TokenKind) → uses_in (method_word kind) ≡ 0
+no_uses kinds.Name = refl
+no_uses (kinds.Number value) = refl
+no_uses kinds.End = refl
+no_uses (kinds.Sign sign) = refl
+no_uses (kinds.Word w) = elim w as (λ w. uses_in (method_word (kinds.Word w)) ≡ 0) [
+  | words.Ring ↦ refl
+  | words.Additive ↦ refl
+  | _ ↦ refl
+]

@@ -1,105 +1,30 @@
 -- Each form has a derivation.
-use Rattle.std.proofs.Common.{refl, pos}
-use Rattle.alg_tokens.specs.declared.token.TokenKind.{TokenKind}
-use Rattle.alg_tokens.specs.declared.token.TokenKind.TheVariants as kinds
-use Rattle.alg_tokens.specs.declared.token.Word.TheVariants as words
 use Rattle.alg_tokens.specs.declared.token.Sign.TheVariants as signs
+use Rattle.alg_reader.specs.declared.format.Format.TheVariants as formats
+use Rattle.alg_reader.specs.declared.place.Place.{Place}
+use Rattle.alg_reader.specs.declared.place.Place.TheVariants as places
 use Rattle.alg_reader.specs.Forms as rules
-use Rattle.alg_reader.specs.Forms.{Rule, Form, a, seq, alt, opt, many, rule, Tree, token, pair, left, right, none, some, end, more, node}
-use Rattle.alg_reader.specs.Grammar.{grammar, Fits}
-use Rattle.alg_reader.proofs.ReadSequences.{an, an-code}
+use Rattle.alg_reader.specs.Forms.{Rule, Form, a, seq, alt, opt, many, rule, left, none, end}
+use Rattle.alg_reader.specs.Grammar.{grammar, said_at}
+use Rattle.alg_tokens.specs.declared.token.TokenKind.TheVariants as kinds
+use Rattle.alg_reader.proofs.BodyTrees.{Derived, word, both, by_rule, leaf_tree, sum_tree, power_tree, unary_tree, product_tree, method_tree, use_tree, ring_tree, sort_tree, hom_tree, vars_tree, hyp_tree, goal_tree}
+use Rattle.alg_reader.proofs.AnswerTrees.{atom_tree, factor_tree, factors_tree, mono_tree, int_tree, condition_tree, constant_tree, conditional_tree, certified_tree, proved_tree, no_tree, zero_tree, none_up_to_tree, gave_up_tree, stopped_tree, combined_tree, line_tree, step_tree}
 
--- a derivation from a form
-abbrev pub Derived : Form → Type 0
-Derived f = (v : Tree) × Fits f v
+said_tree : (place : Place) → Derived (said_at place)
+said_tree places.Plain = (left ring_tree.0, ring_tree.1)
+said_tree places.Start = (left ring_tree.0, ring_tree.1)
+said_tree places.AfterGoal = (left proved_tree.0, proved_tree.1)
+said_tree places.Lines = let line = line_tree formats.One in (left line.0, line.1)
+said_tree places.Steps = let step = step_tree formats.One in (left step.0, step.1)
+said_tree places.LinesTwo = let line = line_tree formats.Two in (left line.0, line.1)
+said_tree places.StepsTwo = let step = step_tree formats.Two in (left step.0, step.1)
 
-word : (k : TokenKind) → Derived (a k)
-word k = (token (an k), an-code k)
-
-both : (f g : Form) → Derived f → Derived g → Derived (seq f g)
-both f g v w = (pair v.0 w.0, (v.1, w.1))
-
-by_rule : (r : Rule) → Derived (grammar r) → Derived (rule r)
-by_rule r v = (node r v.0, (refl, v.1))
-
-leaf_tree : Derived (rule rules.Leaf)
+statement_tree : (place : Place) → Derived (rule (rules.Statement place))
 unfolding grammar
-leaf_tree = by_rule rules.Leaf (left (left (token (an (kinds.Number (pos 0))))), an-code (kinds.Number (pos 0)))
-
-sum_tree : Derived (rule rules.Sum)
-unfolding grammar
-sum_tree =
-    let power = by_rule rules.Power (pair leaf_tree.0 none, (leaf_tree.1, tt)) in
-    let unary = by_rule rules.Unary (right power.0, power.1) in
-    let product = by_rule rules.Product (pair unary.0 end, (unary.1, tt)) in
-    by_rule rules.Sum (pair product.0 end, (product.1, tt))
-
-power_tree : Derived (rule rules.Power)
-unfolding grammar
-power_tree = by_rule rules.Power (pair leaf_tree.0 none, (leaf_tree.1, tt))
-
-unary_tree : Derived (rule rules.Unary)
-unfolding grammar
-unary_tree = by_rule rules.Unary (right power_tree.0, power_tree.1)
-
-product_tree : Derived (rule rules.Product)
-unfolding grammar
-product_tree = by_rule rules.Product (pair unary_tree.0 end, (unary_tree.1, tt))
-
-method_tree : Derived (rule rules.Method)
-unfolding grammar
-method_tree = by_rule rules.Method (right (left (token (an (kinds.Word words.Ring)))), an-code (kinds.Word words.Ring))
-
-use_tree : Derived (rule rules.Use)
-unfolding grammar
-use_tree = by_rule rules.Use (pair (token (an kinds.Name)) none, (an-code kinds.Name, tt))
-
-ring_tree : Derived (rule rules.Ring)
-unfolding grammar
-ring_tree = by_rule rules.Ring (both _ _ (word (kinds.Word words.Ring)) (word kinds.Name))
-
-sort_tree : Derived (rule rules.Sort)
-unfolding grammar
-sort_tree = by_rule rules.Sort (
-  pair (left (token (an (kinds.Word words.Domain)))) (pair (token
-      (an kinds.Name)) none),
-  (an-code (kinds.Word words.Domain), (an-code kinds.Name, tt)),
-)
-
-hom_tree : Derived (rule rules.Hom)
-unfolding grammar
-hom_tree = by_rule rules.Hom (both _ _ (word (kinds.Word words.Hom)) (both _ _ (word kinds.Name) (both _ _ (word
-    (kinds.Sign signs.Colon))
-    (both _ _ (word kinds.Name) (both _ _ (word (kinds.Sign signs.Arrow)) (word kinds.Name))))))
-
-vars_tree : Derived (rule rules.Vars)
-unfolding grammar
-vars_tree = by_rule rules.Vars (both _ _ (word (kinds.Word words.Var)) (both _ _ (word kinds.Name) (both _ _ (
-  end,
-  tt,
-) (both _ _ (word (kinds.Sign signs.Colon)) (word kinds.Name)))))
-
-hyp_tree : Derived (rule rules.Hyp)
-unfolding grammar
-hyp_tree = by_rule rules.Hyp (both _ _ (word (kinds.Word words.Hyp)) (both _ _ (word kinds.Name) (both _ _ (word
-    (kinds.Sign signs.Colon))
-    (both _ _ sum_tree (both _ _ (
-      left (token (an (kinds.Sign signs.Equal))),
-      an-code (kinds.Sign signs.Equal),
-    ) sum_tree)))))
-
-goal_tree : Derived (rule rules.Goal)
-unfolding grammar
-goal_tree = by_rule rules.Goal (both _ _ (word (kinds.Word words.Goal)) (both _ _ sum_tree (both _ _ (word
-    (kinds.Sign signs.Equal))
-    (both _ _ sum_tree (both _ _ (word (kinds.Word words.By)) method_tree)))))
-
-statement_tree : Derived (rule rules.Statement)
-unfolding grammar
-statement_tree = by_rule rules.Statement (both _ _ (left ring_tree.0, ring_tree.1) (word (kinds.Sign signs.Dot)))
+statement_tree place = by_rule (rules.Statement place) (both _ _ (said_tree place) (word (kinds.Sign signs.Dot)))
 
 rule_tree : (r : Rule) → Derived (rule r)
-rule_tree rules.Statement = statement_tree
+rule_tree (rules.Statement place) = statement_tree place
 rule_tree rules.Ring = ring_tree
 rule_tree rules.Sort = sort_tree
 rule_tree rules.Hom = hom_tree
@@ -113,6 +38,24 @@ rule_tree rules.Product = product_tree
 rule_tree rules.Unary = unary_tree
 rule_tree rules.Power = power_tree
 rule_tree rules.Leaf = leaf_tree
+rule_tree rules.Atom = atom_tree
+rule_tree rules.Factor = factor_tree
+rule_tree rules.Factors = factors_tree
+rule_tree rules.Mono = mono_tree
+rule_tree rules.Int = int_tree
+rule_tree rules.Condition = condition_tree
+rule_tree rules.Constant = constant_tree
+rule_tree rules.Conditional = conditional_tree
+rule_tree rules.Certified = certified_tree
+rule_tree rules.Proved = proved_tree
+rule_tree rules.No = no_tree
+rule_tree rules.ZeroDenominator = zero_tree
+rule_tree rules.NoneUpTo = none_up_to_tree
+rule_tree rules.GaveUp = gave_up_tree
+rule_tree rules.Stopped = stopped_tree
+rule_tree (rules.Combined format) = combined_tree format
+rule_tree (rules.Line format) = line_tree format
+rule_tree (rules.Step format) = step_tree format
 
 pub some_tree : (f : Form) → Derived f
 some_tree (a k) = word k

@@ -1,9 +1,10 @@
 -- What the rules of uses and of the options of nsatz make of what their parts mean.
-use Rattle.std.proofs.Common.{◌≡◌, ℕ, inl, inr, List, [], ◌∷◌, ◌++◌, ◌≤◌, length, length-append, refl, ap, sym, ◌∙◌, subst, arith}
+use Rattle.std.proofs.Common.{◌≡◌, ℕ, inl, inr, List, [], ◌∷◌, ◌++◌, ◌≤◌, length, length-append, ap, sym, ◌∙◌, subst, arith}
 use Rattle.std.specs.List.{AllByRecursion}
 use Rattle.alg_tokens.specs.declared.token.Token.{Token}
 use Rattle.alg_tokens.specs.declared.token.Sign.TheVariants as signs
-use Rattle.alg_tokens.specs.declared.token.Word.{Word}
+use Rattle.alg_tokens.specs.declared.token.TokenKind.{TokenKind}
+use Rattle.alg_tokens.specs.declared.token.TokenKind.TheVariants as kinds
 use Rattle.alg_tokens.specs.declared.token.Word.TheVariants as words
 use Rattle.alg_reader.specs.declared.raw.RawUse.{RawUse}
 use Rattle.alg_reader.specs.declared.raw.RawMethod.{RawMethod}
@@ -14,7 +15,7 @@ use Rattle.alg_reader.specs.TermMeaning.{Value}
 use Rattle.alg_reader.specs.RawNodes.{span_of}
 use Rattle.alg_reader.specs.PartMeaning.{act_use, under, uses_after, uses_of, option_of, nsatz_of}
 use Rattle.alg_reader.specs.TermMeaning.{one, two, used}
-use Rattle.alg_reader.specs.WellRead.{IsNameAt, IsOption, IsWellUse, IsWellMethod, word_of, uses_in}
+use Rattle.alg_reader.specs.WellRead.{IsNameAt, IsOption, IsWellUse, IsWellMethod, uses_in}
 use Rattle.alg_reader.proofs.Nodes.{name_at, number_at}
 use Rattle.alg_reader.proofs.Found.{all_of, all_cons, row, EachOf, Found}
 
@@ -101,17 +102,17 @@ using_found text x ts (inr (
     subst P (sym (e ∙ ap (λ v. two v z) ew ∙ ap (two (one w)) (e' ∙ ap (λ v. two v r) eu ∙ ap (two (used u)) er)))
     ((f, rest), omega arith)
 
-option_found : (text : List ℕ) (w : Word) (x : Value) (ts : List Token) → Found text (option w) x ts
+pub option_found : (text : List ℕ) (k : TokenKind) (x : Value) (ts : List Token) → Found text (option k) x ts
     → IsOption (option_of x)
-option_found text w x ts (inl (e, _)) = let P : Value → Type 0 = λ v. IsOption (option_of v) in subst P (sym e) tt
-option_found text w x ts (inr (y, z, us, vs, e, _, (o, eo, _, _, _), h)) =
+option_found text k x ts (inl (e, _)) = let P : Value → Type 0 = λ v. IsOption (option_of v) in subst P (sym e) tt
+option_found text k x ts (inr (y, z, us, vs, e, _, (o, eo, _, _, _), h)) =
     let (n, en, range, _, _) = number_at text z vs h in
     let P : Value → Type 0 = λ v. IsOption (option_of v) in
     subst P (sym (e ∙ ap (λ v. two v z) eo ∙ ap (two (one o)) en)) (record { low = range.0; high = range.1 })
 
 -- nsatz with its options, which are well read and have few uses
 abbrev pub OptionsFound : List ℕ → RawMethod → List Token → Type 0
-OptionsFound text m ts = IsWellMethod text m × (word_of m ≡ words.Nsatz) × (uses_in m ≤ length ts)
+OptionsFound text m ts = IsWellMethod text m × (uses_in m ≤ length ts)
 
 pub options_found : (text : List ℕ) (x : Value) (ts : List Token) → Found text options x ts
     → OptionsFound text (nsatz_of x) ts
@@ -123,9 +124,8 @@ options_found text x ts (y, z, us, vs, e, s, h, (v, w, us', vs', e', _, k, l)) =
     subst P (sym (e ∙ ap (two y) e')) (
       (
         all_of (IsWellUse text) (uses_of y) all,
-        option_found text words.Power v us' k,
-        option_found text words.Limit w vs' l,
+        option_found text (kinds.Word words.Power) v us' k,
+        option_found text (kinds.Word words.Limit) w vs' l,
       ),
-      refl,
       few,
     )

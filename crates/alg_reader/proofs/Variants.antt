@@ -1,5 +1,5 @@
 -- What the number of a kind says of the kind.
-use Rattle.std.proofs.Common.{◌≡◌, ◌<◌, ℕ, ◌⊎◌, inl, inr, refl, ap, arith, ℤ, pos, negsuc, zero, suc}
+use Rattle.std.proofs.Common.{◌≡◌, ◌<◌, ℕ, ◌⊎◌, inl, inr, refl, ap, sym, subst, arith, ℤ, pos, negsuc, zero, suc}
 use Rattle.alg_tokens.specs.declared.token.TokenKind.{TokenKind}
 use Rattle.alg_tokens.specs.declared.token.TokenKind.TheVariants as kinds
 use Rattle.alg_tokens.specs.declared.token.Sign.{Sign}
@@ -8,10 +8,15 @@ use Rattle.alg_tokens.specs.declared.token.Word.{Word}
 use Rattle.alg_tokens.specs.declared.token.Word.TheVariants as words
 use Rattle.alg_reader.specs.Kinds.{variant, sign_number, word_number}
 
-pub numeral_variant : (value : ℤ) → (variant (kinds.Number value) ≡ 1) ⊎ (variant (kinds.Number value) ≡ 2)
+-- the number of a kind of numerals
+abbrev pub IsOfNumerals : ℕ → Type 0
+IsOfNumerals n = (1 ≡ n) ⊎ (2 ≡ n) ⊎ (3 ≡ n)
+
+numeral_variant : (value : ℤ) → IsOfNumerals (variant (kinds.Number value))
 numeral_variant (pos zero) = inl refl
-numeral_variant (pos (suc n)) = inr refl
-numeral_variant (negsuc n) = inr refl
+numeral_variant (pos (suc zero)) = inr (inl refl)
+numeral_variant (pos (suc (suc n))) = inr (inr refl)
+numeral_variant (negsuc n) = inr (inr refl)
 
 pub sign_small : (sign : Sign) → sign_number sign < 13
 sign_small sign = elim sign as (λ s. sign_number s < 13) [ signs.Dot ↦ omega arith | _ ↦ omega arith ]
@@ -25,54 +30,51 @@ paren_sign sign = elim sign as (λ s. sign_number s ≡ 6
           (omega arith)
     ]
 
-not_numeral : (value : ℤ) (n : ℕ) → n ≡ variant (kinds.Number value) → (n ≡ 1) ⊎ (n ≡ 2)
-not_numeral value n h = elim (numeral_variant value) [ inl e ↦ inl (omega arith) | inr e ↦ inr (omega arith) ]
+small_no_numeral : (n : ℕ) → n < 1 → IsOfNumerals n → ⊥
+small_no_numeral n small (inl e) = absurd (omega arith)
+small_no_numeral n small (inr (inl e)) = absurd (omega arith)
+small_no_numeral n small (inr (inr e)) = absurd (omega arith)
+
+large_no_numeral : (n : ℕ) → 3 < n → IsOfNumerals n → ⊥
+large_no_numeral n large (inl e) = absurd (omega arith)
+large_no_numeral n large (inr (inl e)) = absurd (omega arith)
+large_no_numeral n large (inr (inr e)) = absurd (omega arith)
+
+no_numeral : (value : ℤ) (n : ℕ) → 3 < n → n ≡ variant (kinds.Number value) → ⊥
+no_numeral value n large h = large_no_numeral n large (subst IsOfNumerals (sym h) (numeral_variant value))
+
+name_no_numeral : (value : ℤ) → 0 ≡ variant (kinds.Number value) → ⊥
+name_no_numeral value h = small_no_numeral 0 (omega arith) (subst IsOfNumerals (sym h) (numeral_variant value))
 
 pub is_paren : (kind : TokenKind) → variant (kinds.Sign signs.ParenLeft) ≡ variant kind
     → kind ≡ kinds.Sign signs.ParenLeft
 is_paren kinds.Name h = absurd (omega arith)
 is_paren (kinds.Word word) h = absurd (omega arith)
-is_paren (kinds.Number value) h = elim (not_numeral value 10 h) [
-  | inl e ↦ absurd (omega arith)
-  | inr e ↦ absurd
-      (omega arith)
-]
+is_paren (kinds.Number value) h = absurd (no_numeral value 11 (omega arith) h)
 is_paren (kinds.Sign sign) h = ap (λ s. kinds.Sign s) (paren_sign sign (omega arith))
 is_paren kinds.End h = absurd (omega arith)
 
 pub is_name : (kind : TokenKind) → variant kinds.Name ≡ variant kind → kind ≡ kinds.Name
 is_name kinds.Name h = refl
 is_name (kinds.Word word) h = absurd (omega arith)
-is_name (kinds.Number value) h = elim (not_numeral value 0 h) [
-  | inl e ↦ absurd (omega arith)
-  | inr e ↦ absurd
-      (omega arith)
-]
+is_name (kinds.Number value) h = absurd (name_no_numeral value h)
 is_name (kinds.Sign sign) h = absurd (omega arith)
 is_name kinds.End h = absurd (omega arith)
 
 -- a kind with one of the numbers of numerals
-pub is_numeral : (kind : TokenKind) → (1 ≡ variant kind) ⊎ (2 ≡ variant kind)
-    → (value : ℤ) × (kind ≡ kinds.Number value)
+pub is_numeral : (kind : TokenKind) → IsOfNumerals (variant kind) → (value : ℤ) × (kind ≡ kinds.Number value)
 is_numeral (kinds.Number value) h = (value, refl)
-is_numeral kinds.Name (inl h) = absurd (omega arith)
-is_numeral kinds.Name (inr h) = absurd (omega arith)
-is_numeral (kinds.Word word) (inl h) = absurd (omega arith)
-is_numeral (kinds.Word word) (inr h) = absurd (omega arith)
-is_numeral (kinds.Sign sign) (inl h) = absurd (omega arith)
-is_numeral (kinds.Sign sign) (inr h) = absurd (omega arith)
-is_numeral kinds.End (inl h) = absurd (omega arith)
-is_numeral kinds.End (inr h) = absurd (omega arith)
+is_numeral kinds.Name h = absurd (small_no_numeral 0 (omega arith) h)
+is_numeral (kinds.Word word) h = absurd (large_no_numeral (variant (kinds.Word word)) (omega arith) h)
+is_numeral (kinds.Sign sign) h = absurd (large_no_numeral (variant (kinds.Sign sign)) (omega arith) h)
+is_numeral kinds.End h = absurd (large_no_numeral 4 (omega arith) h)
 
 -- a word, by its number
 module _ (word : Word) (alone : (w : Word) → word_number w ≡ word_number word → w ≡ word) where
   is_word : (kind : TokenKind) → variant (kinds.Word word) ≡ variant kind → kind ≡ kinds.Word word
   is_word kinds.Name h = absurd (omega arith)
   is_word (kinds.Word w) h = ap (λ w. kinds.Word w) (alone w (omega arith))
-  is_word (kinds.Number value) h = elim (not_numeral value (variant (kinds.Word word)) h) [
-    | inl e ↦ absurd (omega arith)
-    | inr e ↦ absurd (omega arith)
-  ]
+  is_word (kinds.Number value) h = absurd (no_numeral value (variant (kinds.Word word)) (omega arith) h)
   is_word (kinds.Sign sign) h = let small = sign_small sign in absurd (omega arith)
   is_word kinds.End h = absurd (omega arith)
 
@@ -126,10 +128,6 @@ dot_sign sign = elim sign as (λ s. sign_number s ≡ 0 → s ≡ signs.Dot) [
 pub is_dot : (kind : TokenKind) → variant (kinds.Sign signs.Dot) ≡ variant kind → kind ≡ kinds.Sign signs.Dot
 is_dot kinds.Name h = absurd (omega arith)
 is_dot (kinds.Word word) h = absurd (omega arith)
-is_dot (kinds.Number value) h = elim (not_numeral value 4 h) [
-  | inl e ↦ absurd (omega arith)
-  | inr e ↦ absurd
-      (omega arith)
-]
+is_dot (kinds.Number value) h = absurd (no_numeral value 5 (omega arith) h)
 is_dot (kinds.Sign sign) h = ap (λ s. kinds.Sign s) (dot_sign sign (omega arith))
 is_dot kinds.End h = absurd (omega arith)

@@ -1,20 +1,16 @@
 -- What was read is well read.
-use Rattle.std.proofs.Common.{◌≡◌, ◌≤◌, ◌+◌, ℕ, nat_lt, inl, inr, Bool, true, false, cond, List, [], ◌∷◌, ◌++◌, length, length-append, refl, ap, sym, ◌∙◌, subst, arith, Option, Some, None, is_none, pos, ◌≤ℤ◌}
+use Rattle.std.proofs.Common.{◌≡◌, ◌≤◌, ℕ, nat_lt, inl, inr, true, false, cond, List, map, [], ◌∷◌, length, refl, ap, sym, ◌∙◌, subst, arith, None, pos}
 use Rattle.std.specs.List.{AllByRecursion}
 use Rattle.std.specs.Str.{IsUtf8, IsCharBoundary}
 use Rattle.std.proofs.lemmas.Bool.Decides.{nat_tests}
 use Rattle.std.proofs.lemmas.Int.{ints}
 use Rattle.std.proofs.lemmas.Str.{IsUtf8-drop, IsCharBoundary-end}
-use Rattle.alg_tokens.specs.declared.code.Code.{Code}
-use Rattle.alg_tokens.specs.declared.code.Code.TheVariants as code
 use Rattle.alg_tokens.specs.declared.token.Token.{Token}
-use Rattle.alg_tokens.specs.declared.token.TokenKind.{TokenKind}
-use Rattle.alg_tokens.specs.declared.token.TokenKind.TheVariants as kinds
-use Rattle.alg_tokens.specs.declared.token.Word.{Word}
-use Rattle.alg_tokens.specs.declared.token.Word.TheVariants as words
-use Rattle.alg_terms.specs.Limits.{MAX_LITERAL, MAX_DEPTH}
+use Rattle.alg_terms.specs.Limits.{MAX_DEPTH}
 use Rattle.alg_reader.specs.declared.raw.RawNode.TheVariants.{Int}
 use Rattle.alg_reader.specs.declared.raw.RawTerm.{RawTerm}
+use Rattle.alg_reader.specs.declared.raw.RawAnswer.{RawAnswer}
+use Rattle.alg_reader.specs.declared.raw.RawAnswer.TheVariants as answers
 use Rattle.alg_reader.specs.declared.raw.RawKind.{RawKind}
 use Rattle.alg_reader.specs.declared.raw.RawKind.TheVariants as raws
 use Rattle.alg_reader.specs.declared.place.Place.{Place}
@@ -22,16 +18,16 @@ use Rattle.alg_reader.specs.declared.reading.Raw.{Raw}
 use Rattle.alg_reader.specs.Forms.{Statement, rule}
 use Rattle.alg_reader.specs.TermMeaning.{Value}
 use Rattle.alg_reader.specs.RawNodes.{at as node_at}
-use Rattle.alg_reader.specs.TermMeaning.{sort, hom, vars, hyp, goal}
+use Rattle.alg_reader.specs.TermMeaning.{sort, hom, vars, hyp, goal, answer, line, step}
 use Rattle.alg_reader.specs.Meaning.{kind_value}
 use Rattle.alg_reader.specs.RawTerms.{fold_under, depth_of, names_in, literals_in, exponents_in}
-use Rattle.alg_reader.specs.TooDeep.{kept, kept_kind}
-use Rattle.alg_reader.specs.Tokens.{Unread, open_with, stop_code, GoesPast}
+use Rattle.alg_reader.specs.Places.{MayStand}
+use Rattle.alg_reader.specs.TooDeep.{kept, kept_answer, kept_kind}
 use Rattle.alg_reader.specs.Statements.{StandsAt, IsRead}
-use Rattle.alg_reader.specs.WellRead.{IsWellTerm, IsWellKind, IsWellRead, IsReadable, members_in, word_of, uses_in}
-use Rattle.alg_reader.specs.Laws.{StatementsAreWellRead}
+use Rattle.alg_reader.specs.WellRead.{IsInRange, IsWellTerm, IsWellAnswer, IsWellKind, IsWellRead, members_in}
+use Rattle.alg_reader.specs.Laws.{StatementsAreWellRead, StatementsMayStand}
 use Rattle.alg_reader.proofs.Boundaries.{IsTokenAt, tokens_at, tokens_long}
-use Rattle.alg_reader.proofs.Found.{all_of, IsFoundTerm, IsFoundKind, IsSpelledKind}
+use Rattle.alg_reader.proofs.Found.{all_of, IsFoundAnswer, IsFoundTerm, IsFoundKind, IsSpelledKind}
 use Rattle.alg_reader.proofs.Derivations.{found}
 
 -- ---- what is kept of terms
@@ -40,7 +36,7 @@ zero_well : (text : List ℕ) (head : ℕ) → IsWellTerm text (node_at head (In
 unfolding fold_under
 zero_well text head = record {
   names = λ k d h. absurd (omega arith);
-  literals = all_of (λ n. (pos 0 ≤ℤ n) × (n ≤ℤ MAX_LITERAL)) (pos 0 ∷ []) (
+  literals = all_of IsInRange (pos 0 ∷ []) (
     (
       omega (arith, ints),
       omega
@@ -67,6 +63,23 @@ kept_well text t h = elim (nat_lt MAX_DEPTH (depth_of t)) as (λ b. nat_lt MAX_D
       | false ↦ λ e. term_well text t (grind (arith, nat_tests)) h
     ] refl
 
+all_kept : (text : List ℕ) (ts : List RawTerm) → AllByRecursion (IsFoundTerm text) ts
+    → AllByRecursion (IsWellTerm text) (map kept ts)
+all_kept text [] h = tt
+all_kept text (t ∷ ts) h = (kept_well text t h.0, all_kept text ts h.1)
+
+answer_well : (text : List ℕ) (said : RawAnswer) → IsFoundAnswer text said → IsWellAnswer text (kept_answer said)
+answer_well text (answers.Proved conditions) h = all_of (IsWellTerm text) (map kept conditions)
+    (all_kept text conditions h)
+answer_well text (answers.Certified version power constants) h = h
+answer_well text (answers.No m left right) h = h
+answer_well text (answers.ZeroDenominator denominator) h = kept_well text denominator h
+answer_well text (answers.NoneUpTo power) h = h
+answer_well text (answers.GaveUp limit) h = h
+answer_well text answers.Range h = tt
+answer_well text answers.Degree h = tt
+answer_well text answers.Atoms h = tt
+
 kind_well : (text : List ℕ) (kind : RawKind) → IsFoundKind text kind → IsWellKind text (kept_kind kind)
 kind_well text raws.End h = absurd h
 kind_well text (raws.Sort kind name char0) h = h
@@ -81,6 +94,9 @@ kind_well text (raws.Goal e way place) h = (
   h.2,
   h.3,
 )
+kind_well text (raws.Answer said) h = answer_well text said h
+kind_well text (raws.Line a m i b n j d) h = h
+kind_well text (raws.Step a b n j d) h = h
 
 -- ---- one meaning
 
@@ -90,6 +106,9 @@ kind_of (hom name from to) = raws.Hom name from to
 kind_of (vars names of) = raws.Vars names of
 kind_of (hyp name e) = raws.Hyp name e
 kind_of (goal e way place) = raws.Goal e way place
+kind_of (answer said) = raws.Answer said
+kind_of (line a m i b n j d) = raws.Line a m i b n j d
+kind_of (step a b n j d) = raws.Step a b n j d
 kind_of _ = raws.End
 
 kind_again : (kind : RawKind) → kind_of (kind_value kind) ≡ kind
@@ -100,41 +119,13 @@ kind_again (raws.Hom name from to) = refl
 kind_again (raws.Vars names of) = refl
 kind_again (raws.Hyp name e) = refl
 kind_again (raws.Goal e way place) = refl
+kind_again (raws.Answer said) = refl
+kind_again (raws.Line a m i b n j d) = refl
+kind_again (raws.Step a b n j d) = refl
 
 -- what two statements mean is one, so they are one
 pub one_kind : (kind other : RawKind) → kind_value kind ≡ kind_value other → kind ≡ other
 one_kind kind other e = sym (kind_again kind) ∙ ap kind_of e ∙ kind_again other
-
--- ---- the method
-
-past_at : (unread : Unread) (depth : ℕ) (last : Option TokenKind) (front : List Token) (b w : Token) (back : List Token)
-    → GoesPast unread depth last (front ++ b ∷ w ∷ back) → (d : ℕ) × (stop_code unread d (Some b.kind) w.kind ≡ None)
-past_at unread depth last [] b w back past = (open_with depth b.kind, past.1.0)
-past_at unread depth last (t ∷ front) b w back past =
-    past_at unread (open_with depth t.kind) (Some t.kind) front b w back past.1
-
-no_later : (found : Bool) → cond {A = Option Code} found (Some code.Later) None ≡ None → found ≡ false
-no_later false free = refl
-no_later true free = absurd (let clash = ap (λ r. is_none r) free in cc)
-
--- a word that reading goes past can be read
-can_be_read : (unread : Unread) (d : ℕ) (b w : TokenKind) (word : Word) → b ≡ kinds.Word words.By → w ≡ kinds.Word word
-    → stop_code unread d (Some b) w ≡ None → unread (Some (kinds.Word words.By)) word ≡ false
-can_be_read unread d b w word by is free =
-    let P : TokenKind → Type 0 = λ k. stop_code unread d (Some k) w ≡ None in
-    let Q : TokenKind → Type 0 = λ k. stop_code unread d (Some (kinds.Word words.By)) k ≡ None in
-    no_later _ (subst Q is (subst P by free))
-
-kept_readable : (unread : Unread) (kind : RawKind) (ts : List Token) → GoesPast unread 0 None ts → IsSpelledKind kind ts
-    → IsReadable unread (kept_kind kind)
-kept_readable unread raws.End ts past h = tt
-kept_readable unread (raws.Sort kind name char0) ts past h = tt
-kept_readable unread (raws.Hom name from to) ts past h = tt
-kept_readable unread (raws.Vars names of) ts past h = tt
-kept_readable unread (raws.Hyp name e) ts past h = tt
-kept_readable unread (raws.Goal e way place) ts past (front, b, w, back, same, by, named, _) =
-    let (d, free) = past_at unread 0 None front b w back (subst (GoesPast unread 0 None) same past) in
-    can_be_read unread d b.kind w.kind (word_of way) by named free
 
 -- ---- how long a statement is
 
@@ -145,16 +136,28 @@ few_members (raws.Sort kind name char0) ts some h = some
 few_members (raws.Hom name from to) ts some h = some
 few_members (raws.Vars names of) ts some h = h
 few_members (raws.Hyp name e) ts some h = some
-few_members (raws.Goal e way place) ts some (front, b, w, back, same, _, _, few) =
-    let long = ap length same ∙ length-append front (b ∷ w ∷ back) in
-    let all : 1 + uses_in way ≤ length ts = omega arith in
-    all
+few_members (raws.Goal e way place) ts some h = h
+few_members (raws.Answer said) ts some h = some
+few_members (raws.Line a m i b n j d) ts some h = some
+few_members (raws.Step a b n j d) ts some h = some
 
 -- ---- all of it
 
-stands_well : (unread : Unread) (site : Place) (text : List ℕ) (at : ℕ) (raw : Raw) → IsUtf8 text
-    → IsCharBoundary text at → StandsAt unread site text at raw → IsWellRead text at raw × IsReadable unread raw.kind
-stands_well unread site text at raw u boundary (
+-- what is left out changes nothing of where a statement may stand
+kept_stands : (site : Place) (kind : RawKind) → MayStand site kind → MayStand site (kept_kind kind)
+kept_stands site raws.End h = tt
+kept_stands site (raws.Sort kind name char0) h = tt
+kept_stands site (raws.Hom name from to) h = tt
+kept_stands site (raws.Vars names of) h = tt
+kept_stands site (raws.Hyp name e) h = tt
+kept_stands site (raws.Goal e way place) h = tt
+kept_stands site (raws.Answer said) h = h
+kept_stands site (raws.Line a m i b n j d) h = h
+kept_stands site (raws.Step a b n j d) h = h
+
+stands_well : (site : Place) (text : List ℕ) (at : ℕ) (raw : Raw) → IsUtf8 text → IsCharBoundary text at
+    → StandsAt site text at raw → IsWellRead text at raw × MayStand site raw.kind
+stands_well site text at raw u boundary (
   first,
   more,
   to,
@@ -164,7 +167,7 @@ stands_well unread site text at raw u boundary (
 ) =
     let ts = first ∷ more in
     let (all, stops) = tokens_at text at raw.stop ts boundary.0 (IsUtf8-drop text at u boundary) to in
-    let (k, e, here, spelled) = found text (rule Statement) v fits (subst (AllByRecursion (IsTokenAt text))
+    let (k, e, may, here, spelled) = found text (rule (Statement site)) v fits (subst (AllByRecursion (IsTokenAt text))
     (sym spells) all) in
     let same : k ≡ kind = one_kind k kind (sym e ∙ means) in
     let parts : IsFoundKind text kind = subst (IsFoundKind text) same here in
@@ -173,6 +176,7 @@ stands_well unread site text at raw u boundary (
     let length_of = tokens_long text first.stop raw.stop more to.2 in
     let members = few_members kind ts (omega arith) written in
     let some = all.0.some in
+    let stands : MayStand site kind = subst (MayStand site) same may in
     let counts : members_in raw.kind ≡ members_in (kept_kind kind) = ap members_in keeps in (
       record {
         kind = subst (IsWellKind text) (sym keeps) (kind_well text kind parts);
@@ -180,7 +184,7 @@ stands_well unread site text at raw u boundary (
         stops = stops;
         long = λ _. omega arith;
       },
-      subst (IsReadable unread) (sym keeps) (kept_readable unread kind ts past written),
+      subst (MayStand site) (sym keeps) (kept_stands site kind stands),
     )
 
 end_well : (text : List ℕ) (at : ℕ) → at ≤ length text
@@ -194,6 +198,12 @@ end_well text at within = record {
 
 pub well_read : StatementsAreWellRead
 unfolding IsRead
-well_read unread site text at raw u boundary (inl (next, is)) =
-    subst (λ (r : Raw). IsWellRead text at r × IsReadable unread r.kind) (sym is) (end_well text at boundary.0, tt)
-well_read unread site text at raw u boundary (inr stands) = stands_well unread site text at raw u boundary stands
+well_read site text at raw u boundary (inl (next, is)) =
+    subst (IsWellRead text at) (sym is) (end_well text at boundary.0)
+well_read site text at raw u boundary (inr stands) = (stands_well site text at raw u boundary stands).0
+
+pub may_stand : StatementsMayStand
+unfolding IsRead
+may_stand site text at raw u boundary (inl (next, is)) =
+    let P : RawKind → Type 0 = λ kind. MayStand site kind in subst P (sym (ap (λ r. r.kind) is)) tt
+may_stand site text at raw u boundary (inr stands) = (stands_well site text at raw u boundary stands).1

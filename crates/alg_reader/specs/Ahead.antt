@@ -7,8 +7,10 @@ use Rattle.alg_tokens.specs.declared.token.Sign.{Sign}
 use Rattle.alg_tokens.specs.declared.token.Sign.TheVariants as signs
 use Rattle.alg_tokens.specs.declared.token.Word.{Word}
 use Rattle.alg_tokens.specs.declared.token.Word.TheVariants as words
+use Rattle.alg_reader.specs.declared.place.Place.{Place}
+use Rattle.alg_reader.specs.declared.place.Place.TheVariants as places
 use Rattle.alg_reader.specs.Kinds.{variant, code}
-use Rattle.alg_reader.specs.Forms.{Rule, Statement, Ring, Sort, Hom, Vars, Hyp, Goal, Method, Use, Sum, Product, Unary, Power, Leaf, Form, a, seq, alt, opt, many, rule}
+use Rattle.alg_reader.specs.Forms.{Rule, Statement, Ring, Sort, Hom, Vars, Hyp, Goal, Method, Use, Sum, Product, Unary, Power, Leaf, Atom, Factor, Factors, Mono, Int, Condition, Constant, Conditional, Certified, Proved, No, ZeroDenominator, NoneUpTo, GaveUp, Stopped, Combined, Line, Step, Form, a, seq, alt, opt, many, rule}
 
 -- the number is that of this word, of this sign, of names or of this numeral
 abbrev pub is_word : Word → ℕ → Bool
@@ -24,12 +26,34 @@ abbrev pub is_numeral : ℤ → ℕ → Bool
 is_numeral value n = n == variant (kinds.Number value)
 
 -- the kinds of token that begin a derivation from the rule, and those that could go on with one
+abbrev pub begins_number : ℕ → Bool
+begins_number n = is_numeral (pos 0) n || is_numeral (pos 1) n || is_numeral (pos 2) n
+
 abbrev pub begins_leaf : ℕ → Bool
-begins_leaf n = is_name n || is_numeral (pos 0) n || is_numeral (pos 1) n || is_sign signs.ParenLeft n
+begins_leaf n = is_name n || begins_number n || is_sign signs.ParenLeft n
+
+-- what begins a declaration or a goal
+abbrev pub begins_body : ℕ → Bool
+begins_body n = is_word words.Ring n || is_word words.Domain n || is_word words.Field n || is_word words.Hom n
+    || is_word words.Var n || is_word words.Hyp n || is_word words.Goal n
+
+-- what begins an answer
+abbrev pub begins_answer : ℕ → Bool
+begins_answer n = is_word words.Proved n || is_word words.No n || is_word words.Zero n || is_word words.None n
+    || is_word words.Gave n || is_word words.Range n || is_word words.Degree n || is_word words.Atoms n
+
+-- what begins a statement at a place
+abbrev pub begins_at : Place → ℕ → Bool
+begins_at places.Plain n = begins_body n
+begins_at places.Start n = begins_body n
+begins_at places.AfterGoal n = begins_answer n || begins_body n
+begins_at places.Lines n = is_word words.Line n || is_word words.Step n || begins_body n
+begins_at places.Steps n = is_word words.Step n || begins_body n
+begins_at places.LinesTwo n = is_word words.Line n || is_word words.Step n || begins_body n
+begins_at places.StepsTwo n = is_word words.Step n || begins_body n
 
 unfoldable pub rule_begins : Rule → ℕ → Bool
-rule_begins Statement n = is_word words.Ring n || is_word words.Domain n || is_word words.Field n
-    || is_word words.Hom n || is_word words.Var n || is_word words.Hyp n || is_word words.Goal n
+rule_begins (Statement place) n = begins_at place n
 rule_begins Ring n = is_word words.Ring n
 rule_begins Sort n = is_word words.Domain n || is_word words.Field n
 rule_begins Hom n = is_word words.Hom n
@@ -43,10 +67,28 @@ rule_begins Product n = begins_leaf n || is_sign signs.Minus n
 rule_begins Unary n = begins_leaf n || is_sign signs.Minus n
 rule_begins Power n = begins_leaf n
 rule_begins Leaf n = begins_leaf n
+rule_begins Atom n = is_name n
+rule_begins Factor n = is_name n
+rule_begins Factors n = is_name n
+rule_begins Mono n = is_numeral (pos 1) n || is_name n
+rule_begins Int n = is_sign signs.Minus n || begins_number n
+rule_begins Condition n = begins_leaf n || is_sign signs.Minus n
+rule_begins Constant n = begins_number n
+rule_begins Conditional n = is_word words.If n
+rule_begins Certified n = is_word words.Version n || is_word words.Power n
+rule_begins Proved n = is_word words.Proved n
+rule_begins No n = is_word words.No n
+rule_begins ZeroDenominator n = is_word words.Zero n
+rule_begins NoneUpTo n = is_word words.None n
+rule_begins GaveUp n = is_word words.Gave n
+rule_begins Stopped n = is_word words.Range n || is_word words.Degree n || is_word words.Atoms n
+rule_begins (Combined format) n = begins_number n
+rule_begins (Line format) n = is_word words.Line n
+rule_begins (Step format) n = is_word words.Step n
 
 -- the kinds of token that could go on where a derivation from the rule could end
 unfoldable pub rule_goes_on : Rule → ℕ → Bool
-rule_goes_on Statement n = false
+rule_goes_on (Statement place) n = false
 rule_goes_on Ring n = false
 rule_goes_on Sort n = is_word words.Char n
 rule_goes_on Hom n = false
@@ -65,6 +107,25 @@ rule_goes_on Product n = is_sign signs.ParenLeft n || is_sign signs.Caret n || i
 rule_goes_on Unary n = is_sign signs.ParenLeft n || is_sign signs.Caret n
 rule_goes_on Power n = is_sign signs.ParenLeft n || is_sign signs.Caret n
 rule_goes_on Leaf n = is_sign signs.ParenLeft n
+rule_goes_on Atom n = is_sign signs.ParenLeft n
+rule_goes_on Factor n = is_sign signs.ParenLeft n || is_sign signs.Caret n
+rule_goes_on Factors n = is_sign signs.ParenLeft n || is_sign signs.Caret n || is_sign signs.Star n
+rule_goes_on Mono n = is_sign signs.ParenLeft n || is_sign signs.Caret n || is_sign signs.Star n
+rule_goes_on Int n = false
+rule_goes_on Condition n = false
+rule_goes_on Constant n = false
+rule_goes_on Conditional n = is_sign signs.Comma n
+rule_goes_on Certified n = is_sign signs.Comma n || is_word words.If n
+rule_goes_on Proved n = is_sign signs.Comma n || is_word words.If n || is_word words.Version n || is_word words.Power n
+rule_goes_on No n = false
+rule_goes_on ZeroDenominator n = is_sign signs.ParenLeft n || is_sign signs.Caret n || is_sign signs.Star n
+    || is_sign signs.Slash n || is_sign signs.Plus n || is_sign signs.Minus n
+rule_goes_on NoneUpTo n = false
+rule_goes_on GaveUp n = false
+rule_goes_on Stopped n = false
+rule_goes_on (Combined format) n = is_word words.Over n
+rule_goes_on (Line format) n = is_word words.Over n
+rule_goes_on (Step format) n = is_word words.Over n
 
 -- the form derives the empty list of tokens
 abbrev pub nullable : Form → Bool

@@ -2,10 +2,13 @@
 use Rattle.std.specs.Prelude.{List, [], ◌∷◌, ◌++◌}
 use Rattle.alg_tokens.specs.declared.token.Token.{Token}
 use Rattle.alg_tokens.specs.declared.token.TokenKind.{TokenKind}
+use Rattle.alg_reader.specs.declared.format.Format.{Format}
+use Rattle.alg_reader.specs.declared.place.Place.{Place}
 
--- the rules of the grammar
+-- the rules of the grammar: of what may stand at a place, of declarations and goals, of terms, of answers, and of the
+-- lines and steps of certificates in a format
 pub data Rule : Type 0 where
-  Statement : Rule
+  Statement : Place → Rule
   Ring : Rule
   Sort : Rule
   Hom : Rule
@@ -19,6 +22,24 @@ pub data Rule : Type 0 where
   Unary : Rule
   Power : Rule
   Leaf : Rule
+  Atom : Rule
+  Factor : Rule
+  Factors : Rule
+  Mono : Rule
+  Int : Rule
+  Condition : Rule
+  Constant : Rule
+  Conditional : Rule
+  Certified : Rule
+  Proved : Rule
+  No : Rule
+  ZeroDenominator : Rule
+  NoneUpTo : Rule
+  GaveUp : Rule
+  Stopped : Rule
+  Combined : Format → Rule
+  Line : Format → Rule
+  Step : Format → Rule
 
 -- the right side of a rule
 pub data Form : Type 0 where

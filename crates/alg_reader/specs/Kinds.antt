@@ -1,5 +1,5 @@
 -- Which kinds of tokens the grammar tells apart.
-use Rattle.std.specs.Prelude.{ℕ, ◌+◌, pos, zero}
+use Rattle.std.specs.Prelude.{ℕ, ◌+◌, pos, zero, suc}
 use Rattle.alg_tokens.specs.declared.token.Token.{Token}
 use Rattle.alg_tokens.specs.declared.token.TokenKind.{TokenKind}
 use Rattle.alg_tokens.specs.declared.token.TokenKind.TheVariants as kinds
@@ -62,14 +62,15 @@ word_number words.Var = 32
 word_number words.Version = 33
 word_number words.Zero = 34
 
--- a number for each kind that the grammar tells apart: the numeral 0 is one, all others are another
+-- a number for each kind that the grammar tells apart: of numerals 0 is one, 1 another, and all others a third
 abbrev pub variant : TokenKind → ℕ
 variant kinds.Name = 0
 variant (kinds.Number (pos zero)) = 1
-variant (kinds.Number _) = 2
-variant kinds.End = 3
-variant (kinds.Sign sign) = 4 + sign_number sign
-variant (kinds.Word word) = 17 + word_number word
+variant (kinds.Number (pos (suc zero))) = 2
+variant (kinds.Number _) = 3
+variant kinds.End = 4
+variant (kinds.Sign sign) = 5 + sign_number sign
+variant (kinds.Word word) = 18 + word_number word
 
 -- the number of a token's kind
 abbrev pub code : Token → ℕ

@@ -5,18 +5,22 @@ use Rattle.alg_reader.specs.declared.place.Place.{Place}
 use Rattle.alg_reader.specs.declared.reading.Raw.{Raw}
 use Rattle.alg_reader.specs.declared.reading.FileEnd.{FileEnd}
 use Rattle.alg_reader.specs.declared.reading.FileEnd.TheVariants.{NoMemory}
+use Rattle.alg_reader.specs.Places.{MayStand}
 use Rattle.alg_reader.specs.Statements.{IsRead}
-use Rattle.alg_reader.specs.Tokens.{Unread}
-use Rattle.alg_reader.specs.WellRead.{IsWellRead, IsReadable}
+use Rattle.alg_reader.specs.WellRead.{IsWellRead}
 
--- whatever is read of a text, where it may be cut, is well read, and a method by which it has a goal can be read
+-- whatever is read of a text, where it may be cut, is well read
 abbrev pub StatementsAreWellRead : Type 0
-StatementsAreWellRead = (unread : Unread) (place : Place) (text : List ℕ) (at : ℕ) (raw : Raw) → IsUtf8 text
-    → IsCharBoundary text at → IsRead unread place text at (Ok raw) → IsWellRead text at raw
-    × IsReadable unread raw.kind
+StatementsAreWellRead = (place : Place) (text : List ℕ) (at : ℕ) (raw : Raw) → IsUtf8 text
+    → IsCharBoundary text at → IsRead place text at (Ok raw) → IsWellRead text at raw
+
+-- whatever is read at a place may stand there
+abbrev pub StatementsMayStand : Type 0
+StatementsMayStand = (place : Place) (text : List ℕ) (at : ℕ) (raw : Raw) → IsUtf8 text
+    → IsCharBoundary text at → IsRead place text at (Ok raw) → MayStand place raw.kind
 
 -- at each place of a text there is at most one statement, end or first fault
 abbrev pub OneOutcome : Type 0
-OneOutcome = (unread : Unread) (place : Place) (text : List ℕ) (at : ℕ) (one other : Result Raw FileEnd)
-    → IsRead unread place text at one → IsRead unread place text at other → one ≢ Err NoMemory →
+OneOutcome = (place : Place) (text : List ℕ) (at : ℕ) (one other : Result Raw FileEnd)
+    → IsRead place text at one → IsRead place text at other → one ≢ Err NoMemory →
     other ≢ Err NoMemory → one ≡ other

@@ -2,8 +2,10 @@ pub mod Kinds
 pub mod Forms
 pub mod Grammar
 pub mod RawNodes
+pub mod RawMonos
 pub mod TermMeaning
 pub mod PartMeaning
+pub mod AnswerMeaning
 pub mod Meaning
 pub mod Ahead
 pub mod Reading
@@ -12,5 +14,6 @@ pub mod RawTerms
 pub mod TooDeep
 pub mod Parts
 pub mod Statements
+pub mod Places
 pub mod WellRead
 pub mod Laws

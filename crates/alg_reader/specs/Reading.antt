@@ -3,18 +3,22 @@ use Rattle.std.specs.Prelude.{◌≡◌, List, ◌∷◌, ◌++◌, Result, Ok, 
 use Rattle.alg_tokens.specs.declared.token.Token.{Token}
 use Rattle.alg_tokens.specs.declared.token.TokenKind.{TokenKind}
 use Rattle.alg_tokens.specs.declared.token.TokenKind.TheVariants as kinds
+use Rattle.alg_tokens.specs.declared.token.Sign.{Sign}
 use Rattle.alg_tokens.specs.declared.token.Sign.TheVariants as signs
-use Rattle.alg_reader.specs.Forms.{Rule, Use, Sum, Form, a, seq, alt, many, rule, Tree, spelled}
+use Rattle.alg_reader.specs.Forms.{Rule, Use, Sum, Condition, Form, a, seq, alt, many, rule, Tree, spelled}
 use Rattle.alg_reader.specs.Grammar.{Fits, IsBegun, inside}
 use Rattle.alg_reader.specs.TermMeaning.{Value, chain}
 use Rattle.alg_reader.specs.Meaning.{value, kind_value}
-use Rattle.alg_reader.specs.TermMeaning.{one, two, term, used}
+use Rattle.alg_reader.specs.TermMeaning.{one, two, term, used, answer}
 use Rattle.alg_reader.specs.PartMeaning.{spans, uses_after}
-use Rattle.alg_reader.specs.Parts.{held, held_statement}
+use Rattle.alg_reader.specs.Parts.{held, held_answer, held_statement}
+use Rattle.alg_reader.specs.AnswerMeaning.{after, term_in}
+use Rattle.alg_reader.specs.declared.raw.RawAnswer.TheVariants as answers
 use Rattle.alg_reader.specs.declared.raw.Span.{Span}
 use Rattle.alg_reader.specs.declared.raw.RawTerm.{RawTerm}
 use Rattle.alg_reader.specs.declared.raw.RawUse.{RawUse}
 use Rattle.alg_reader.specs.declared.parts.HeldTerm.{HeldTerm}
+use Rattle.alg_reader.specs.declared.parts.HeldAnswer.{HeldAnswer}
 use Rattle.alg_reader.specs.declared.parts.HeldStatement.{HeldStatement}
 use Rattle.alg_reader.specs.declared.cursor.Fault.{Fault}
 use Rattle.alg_reader.specs.declared.cursor.Fault.TheVariants.{NoMemory, Unexpected}
@@ -63,6 +67,10 @@ ReadsTerm r = ReadsKept (rule r) held term
 abbrev pub ReadsStatement : Form → List Token → Result HeldStatement Fault → List Token → Type 0
 ReadsStatement f = ReadsKept f held_statement kind_value
 
+-- what a reader of answers answers
+abbrev pub ReadsAnswer : Form → List Token → Result HeldAnswer Fault → List Token → Type 0
+ReadsAnswer f = ReadsKept f held_answer answer
+
 -- what is kept of what the tokens taken mean
 abbrev pub ReadsAs : {X : Type 0} → Form → (Value → X) → List Token → Result X Fault → List Token → Type 0
 ReadsAs f keep = ReadsKept f keep (λ v. v)
@@ -99,6 +107,18 @@ ReadsNames first = ReadsAs (many (a kinds.Name)) (λ v. first ∷ spans v)
 -- what a reader of further uses answers, with the first one
 abbrev pub ReadsUses : RawUse → List Token → Result (List RawUse) Fault → List Token → Type 0
 ReadsUses first = ReadsAs (many (seq (a (kinds.Sign signs.Comma)) (rule Use))) (λ v. first ∷ uses_after v)
+
+-- what a reader of those answers that follow a first one, each behind a sign, with the first one; `item` says what one
+-- of them is
+abbrev pub ReadsMore : {X : Type 0} → Sign → Rule → (Value → List X) → X → List Token → Result (List X) Fault
+    → List Token → Type 0
+ReadsMore s r item first = ReadsAs (many (seq (a (kinds.Sign s)) (rule r))) (λ v. first ∷ after item v)
+
+-- what a reader of further conditions answers, where a first one is held
+abbrev pub ReadsConditions : HeldTerm → List Token → Result HeldAnswer Fault → List Token → Type 0
+ReadsConditions first old result new = (t : RawTerm) → first ≡ held t
+    → ReadsAs (many (seq (a (kinds.Sign signs.Comma)) (rule Condition))) (λ v. held_answer
+    (answers.Proved (t ∷ after term_in v))) old result new
 
 -- a use behind morphisms that were read before it
 abbrev pub behind : List Span → RawUse → RawUse

@@ -16,11 +16,11 @@ use Rattle.alg_reader.specs.Forms.{Statement, Form, rule, Tree, spelled}
 use Rattle.alg_reader.specs.Grammar.{Fits, IsBegun}
 use Rattle.alg_reader.specs.Meaning.{value, kind_value}
 use Rattle.alg_reader.specs.TooDeep.{kept_kind, first_of_statement}
-use Rattle.alg_reader.specs.Tokens.{Unread, TokensTo, GoesPast, Reaches, StopsAt, end_of}
+use Rattle.alg_reader.specs.Tokens.{TokensTo, GoesPast, Reaches, StopsAt, end_of}
 
--- the form of what may stand at a place: at each of them a declaration or a goal
+-- the form of what may stand at a place
 abbrev pub statement_at : Place → Form
-statement_at place = rule Statement
+statement_at place = rule (Statement place)
 
 -- the grammar derives the tokens at a place, and they say this
 abbrev pub IsStatement : Place → List Token → RawKind → Type 0
@@ -32,17 +32,17 @@ abbrev pub Begins : Place → List Token → Type 0
 Begins place tokens = IsBegun (statement_at place) tokens
 
 -- with this token no statement begins, or one begins so and reading stops there
-abbrev pub EndsReading : Unread → Place → List Token → Token → Refusal → Type 0
-EndsReading unread place before token fault =
+abbrev pub EndsReading : Place → List Token → Token → Refusal → Type 0
+EndsReading place before token fault =
     ((fault ≡ fault_at code.Syntax token.start) × (Begins place (before ++ token ∷ []) → ⊥))
-    ⊎ (StopsAt unread before token fault × Begins place (before ++ token ∷ []))
+    ⊎ (StopsAt before token fault × Begins place (before ++ token ∷ []))
 
 -- What ends reading behind tokens that begin a statement: what can't be cut, the end inside a statement, or a token.
-abbrev pub FaultBehind : Unread → Place → List ℕ → List Token → ℕ → Refusal → Type 0
-FaultBehind unread place text before stop fault = IsNext text stop (Err fault)
+abbrev pub FaultBehind : Place → List ℕ → List Token → ℕ → Refusal → Type 0
+FaultBehind place text before stop fault = IsNext text stop (Err fault)
     ⊎ (IsNext text stop (Ok (end_of text)) × (before ≢ []) × (fault ≡ fault_at code.End (length text)))
     ⊎ ((token : Token) × IsNext text stop (Ok token) × (token.kind ≢ kinds.End)
-    × EndsReading unread place before token fault)
+    × EndsReading place before token fault)
 
 -- the text ends here, and this says so
 abbrev pub IsEnd : List ℕ → ℕ → Raw → Type 0
@@ -54,15 +54,15 @@ abbrev pub Keeps : Raw → RawKind → Type 0
 Keeps raw kind = (raw.kind ≡ kept_kind kind) × (raw.too_deep ≡ first_of_statement kind)
 
 -- the tokens from here to a `.` are a statement that reading goes past, of which this is kept
-abbrev pub StandsAt : Unread → Place → List ℕ → ℕ → Raw → Type 0
-StandsAt unread place text at raw = (first : Token) × (more : List Token)
-    × TokensTo text at (first ∷ more) raw.stop × GoesPast unread 0 None (first ∷ more) × (raw.start ≡ first.start)
+abbrev pub StandsAt : Place → List ℕ → ℕ → Raw → Type 0
+StandsAt place text at raw = (first : Token) × (more : List Token)
+    × TokensTo text at (first ∷ more) raw.stop × GoesPast 0 (first ∷ more) × (raw.start ≡ first.start)
     × ((kind : RawKind) × IsStatement place (first ∷ more) kind × Keeps raw kind)
 
--- Where some words can't be read yet, this stands at a byte of a text: its end, or a statement of the place; or the
--- first fault, behind tokens that begin a statement.
-unfoldable pub IsRead : Unread → Place → List ℕ → ℕ → Result Raw FileEnd → Type 0
-IsRead unread place text at (Ok raw) = IsEnd text at raw ⊎ StandsAt unread place text at raw
-IsRead unread place text at (Err NoMemory) = Unit {0}
-IsRead unread place text at (Err (Refused fault)) = (before : List Token) × (stop : ℕ)
-    × Reaches unread text at before stop × Begins place before × FaultBehind unread place text before stop fault
+-- This stands at a byte of a text: its end, or a statement of the place; or the first fault, behind tokens that begin
+-- a statement.
+unfoldable pub IsRead : Place → List ℕ → ℕ → Result Raw FileEnd → Type 0
+IsRead place text at (Ok raw) = IsEnd text at raw ⊎ StandsAt place text at raw
+IsRead place text at (Err NoMemory) = Unit {0}
+IsRead place text at (Err (Refused fault)) = (before : List Token) × (stop : ℕ)
+    × Reaches text at before stop × Begins place before × FaultBehind place text before stop fault

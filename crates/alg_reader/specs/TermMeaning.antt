@@ -4,6 +4,11 @@ use Rattle.alg_tokens.specs.declared.token.Token.{Token}
 use Rattle.alg_tokens.specs.declared.token.TokenKind.{TokenKind}
 use Rattle.alg_tokens.specs.declared.token.TokenKind.TheVariants as kinds
 use Rattle.alg_terms.specs.declared.declarations.Kind.{Kind}
+use Rattle.alg_reader.specs.declared.certificates.Combined.{Combined}
+use Rattle.alg_reader.specs.declared.raw.RawAnswer.{RawAnswer}
+use Rattle.alg_reader.specs.declared.raw.RawFactor.{RawFactor}
+use Rattle.alg_reader.specs.declared.raw.RawMono.{RawMono}
+use Rattle.alg_reader.specs.declared.raw.RawNumber.{RawNumber}
 use Rattle.alg_reader.specs.declared.raw.RawUse.{RawUse}
 use Rattle.alg_reader.specs.declared.raw.RawMethod.{RawMethod}
 use Rattle.alg_reader.specs.declared.raw.Span.{Span}
@@ -24,6 +29,13 @@ pub data Value : Type 0 where
   used : RawUse → Value
   method : RawMethod → ℕ → Value
   goal : RawEquation → RawMethod → ℕ → Value
+  factor : RawFactor → Value
+  mono : RawMono → Value
+  int : RawNumber → Value
+  answer : RawAnswer → Value
+  combined : Combined → Value
+  line : RawNumber → RawMono → RawNumber → RawNumber → RawMono → RawNumber → RawNumber → Value
+  step : RawNumber → RawNumber → RawMono → RawNumber → RawNumber → Value
 
 -- operators group to the left
 unfoldable pub chain : RawTerm → Value → RawTerm

@@ -1,10 +1,12 @@
 -- Nodes that are too deep, and what is kept of the terms that have them.
-use Rattle.std.specs.Prelude.{ℕ, ◌+◌, max, nat_lt, if◌then◌else◌, Option, None, Some, pos}
+use Rattle.std.specs.Prelude.{ℕ, ◌+◌, max, nat_lt, if◌then◌else◌, List, [], ◌∷◌, map, Option, None, Some, pos}
 use Rattle.std.specs.Option.{option_or}
 use Rattle.alg_terms.specs.Limits.{MAX_DEPTH}
 use Rattle.alg_reader.specs.declared.raw.RawTerm.{RawTerm, roll-RawTerm}
 use Rattle.alg_reader.specs.declared.raw.RawNode.TheOpen.{RawNode-F}
 use Rattle.alg_reader.specs.declared.raw.RawNode.TheVariants.{Int}
+use Rattle.alg_reader.specs.declared.raw.RawAnswer.{RawAnswer}
+use Rattle.alg_reader.specs.declared.raw.RawAnswer.TheVariants as answers
 use Rattle.alg_reader.specs.declared.raw.RawEquation.{RawEquation}
 use Rattle.alg_reader.specs.declared.raw.RawKind.{RawKind}
 use Rattle.alg_reader.specs.declared.raw.RawKind.TheVariants as raws
@@ -53,18 +55,37 @@ kept t = if nat_lt MAX_DEPTH (depth_of t) then roll-RawTerm (record { head = t.h
 abbrev pub kept_sides : RawEquation → RawEquation
 kept_sides e = record e { left = kept e.left; right = kept e.right }
 
+-- what is kept of an answer
+abbrev pub kept_answer : RawAnswer → RawAnswer
+kept_answer (answers.Proved conditions) = answers.Proved (map kept conditions)
+kept_answer (answers.ZeroDenominator denominator) = answers.ZeroDenominator (kept denominator)
+kept_answer said = said
+
 -- what is kept of a statement
 abbrev pub kept_kind : RawKind → RawKind
 kept_kind (raws.Hyp name e) = raws.Hyp name (kept_sides e)
 kept_kind (raws.Goal e method method_at) = raws.Goal (kept_sides e) method method_at
+kept_kind (raws.Answer said) = raws.Answer (kept_answer said)
 kept_kind kind = kind
 
 -- the first too deep node of an equation: the left side comes first
 abbrev pub first_of_sides : RawEquation → Option ℕ
 first_of_sides e = option_or (first_too_deep e.left) (first_too_deep e.right)
 
+-- the first too deep node of several terms, one after the other
+abbrev pub first_of_terms : List RawTerm → Option ℕ
+first_of_terms [] = None
+first_of_terms (t ∷ ts) = option_or (first_too_deep t) (first_of_terms ts)
+
+-- the first too deep node of an answer
+abbrev pub first_of_answer : RawAnswer → Option ℕ
+first_of_answer (answers.Proved conditions) = first_of_terms conditions
+first_of_answer (answers.ZeroDenominator denominator) = first_too_deep denominator
+first_of_answer said = None
+
 -- the head of the first too deep node of a statement
 abbrev pub first_of_statement : RawKind → Option ℕ
 first_of_statement (raws.Hyp name e) = first_of_sides e
 first_of_statement (raws.Goal e method method_at) = first_of_sides e
+first_of_statement (raws.Answer said) = first_of_answer said
 first_of_statement kind = None

@@ -91,12 +91,14 @@ impl Cursor<'_> {
     pub fn sees_number(&self) -> bool
         ensures { MatchBool result (Starts number self.now) (Lacks number self.now) }
     {
-        self.sees(TokenKind::Number(0)) || self.sees(TokenKind::Number(1))
+        self.sees(TokenKind::Number(0))
+            || self.sees(TokenKind::Number(1))
+            || self.sees(TokenKind::Number(2))
     }
 
     /// Takes the next token, which is to be of this kind.
     pub fn expect(&mut self, kind: TokenKind) -> Result<Token, Fault>
-        requires { variant kind ≢ 3 }
+        requires { variant kind ≢ variant End }
         ensures { Reads (a kind) one self.old result self.new }
     {
         let token = self.peek();
@@ -110,7 +112,7 @@ impl Cursor<'_> {
     /// Takes the next token, which is to be of one of these kinds.
     pub fn expect_either(&mut self, kind: TokenKind, other: TokenKind) -> Result<Token, Fault>
         requires differ { variant kind ≢ variant other }
-        requires lexemes { (variant kind ≢ 3) × (variant other ≢ 3) }
+        requires lexemes { (variant kind ≢ variant End) × (variant other ≢ variant End) }
         ensures { Reads (alt (a kind) (a other)) one self.old result self.new }
     {
         if self.sees(kind) {
@@ -133,7 +135,7 @@ impl Cursor<'_> {
 
     /// Takes the next token, which is not the end.
     pub fn take(&mut self) -> Token
-        requires { (t : Token) (more : List Token) → self.old ≡ t ∷ more → variant t.kind ≢ 3 }
+        requires { (t : Token) (more : List Token) → self.old ≡ t ∷ more → variant t.kind ≢ variant End }
         ensures { self.old ≡ result ∷ self.new }
     {
         let token = self.peek();
@@ -142,7 +144,7 @@ impl Cursor<'_> {
     }
 
     fn advance(&mut self)
-        requires { (t : Token) (more : List Token) → self.old ≡ t ∷ more → variant t.kind ≢ 3 }
+        requires { (t : Token) (more : List Token) → self.old ≡ t ∷ more → variant t.kind ≢ variant End }
         ensures { (t : Token) × (self.old ≡ t ∷ self.new) }
     {
         if let [_, rest @ ..] = self.rest {

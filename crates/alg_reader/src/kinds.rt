@@ -11,10 +11,11 @@ fn variant(kind: TokenKind) -> u8
     match kind {
         TokenKind::Name => 0,
         TokenKind::Number(0) => 1,
-        TokenKind::Number(_) => 2,
-        TokenKind::End => 3,
-        TokenKind::Sign(sign) => 4 + sign as u8,
-        TokenKind::Word(word) => 17 + word as u8,
+        TokenKind::Number(1) => 2,
+        TokenKind::Number(_) => 3,
+        TokenKind::End => 4,
+        TokenKind::Sign(sign) => 5 + sign as u8,
+        TokenKind::Word(word) => 18 + word as u8,
     }
 }
 

@@ -4,9 +4,13 @@
 //! its contract are in `specs/Statements.antt`, over the grammar of `specs/Grammar.antt`.
 #![tactic(auto)]
 
+mod answers;
+mod certificates;
 mod cursor;
+mod format;
 mod kinds;
 pub mod laws;
+mod monomials;
 mod parts;
 mod place;
 mod raw;
@@ -17,8 +21,13 @@ mod tokens;
 mod uses;
 
 pub use place::Place;
-pub use raw::{RawEquation, RawKind, RawMethod, RawNode, RawNumber, RawTerm, RawUse, Span};
+pub use raw::{
+    RawAnswer, RawEquation, RawFactor, RawKind, RawMethod, RawMono, RawNode, RawNumber, RawTerm,
+    RawUse, Span,
+};
 pub use reading::{FileEnd, Raw, read_statement};
 
+#[cfg(test)]
+mod place_tests;
 #[cfg(test)]
 mod tests;

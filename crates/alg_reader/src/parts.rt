@@ -5,7 +5,7 @@ ghost use Rattle.alg_terms.specs.Limits.{MAX_DEPTH};
 ghost use Rattle.alg_reader.specs.RawNodes as spec;
 ghost use Rattle.alg_reader.specs.Parts as parts;
 
-use crate::raw::{RawKind, RawNode, RawNumber, RawTerm, Span};
+use crate::raw::{RawAnswer, RawKind, RawNode, RawNumber, RawTerm, Span};
 use alg_terms::GREATEST_DEPTH;
 use alg_tokens::{Sign, Token, TokenKind};
 use sqlite_items::Boxed;
@@ -16,6 +16,13 @@ use std::alloc::{AllocError, Global};
 pub struct HeldTerm {
     pub term: RawTerm,
     pub depth: u32,
+    pub too_deep: Option<u32>,
+}
+
+/// What is kept of an answer, and the head of its first too deep node.
+#[derive(Debug, Drop)]
+pub struct HeldAnswer {
+    pub answer: RawAnswer,
     pub too_deep: Option<u32>,
 }
 
@@ -86,7 +93,7 @@ pub fn binary(
     Ok(over(op.start, node, below, too_deep))
 }
 
-fn number_of(kind: TokenKind) -> i128
+pub fn number_of(kind: TokenKind) -> i128
     ensures { result ≡ spec.number_of kind }
 {
     match kind {

@@ -1,7 +1,7 @@
 //! Terms and statements as they were read, with the bytes of their names, numerals and heads.
 
 use alg_terms::{Kind, Seq};
-use sqlite_items::Boxed;
+use sqlite_items::{Boxed, Items};
 
 /// A slice of the text.
 #[derive(Clone, Copy, PartialEq, Eq, Debug)]
@@ -67,6 +67,50 @@ pub enum RawMethod {
     },
 }
 
+/// A monomial with its first byte. The monomial 1 has no factors.
+#[cycle(monomials)]
+#[derive(Debug, Drop)]
+pub struct RawMono {
+    pub start: u32,
+    pub factors: Items<RawFactor>,
+}
+
+/// A factor: a variable or, where something stands in parentheses behind its name, a morphism on
+/// that; with its exponent, if it is written.
+#[cycle(monomials)]
+#[derive(Debug, Drop)]
+pub struct RawFactor {
+    pub name: Span,
+    pub of: Option<RawMono>,
+    pub exponent: Option<RawNumber>,
+}
+
+/// An answer as it is written.
+#[derive(Debug, Drop)]
+pub enum RawAnswer {
+    Proved {
+        conditions: Seq<RawTerm>,
+    },
+    Certified {
+        version: Option<RawNumber>,
+        power: RawNumber,
+        constants: Seq<RawNumber>,
+    },
+    No {
+        at: RawMono,
+        left: RawNumber,
+        right: RawNumber,
+    },
+    ZeroDenominator {
+        denominator: RawTerm,
+    },
+    NoneUpTo(RawNumber),
+    GaveUp(RawNumber),
+    Range,
+    Degree,
+    Atoms,
+}
+
 /// What a statement says, or that the text ends.
 #[derive(Debug, Drop)]
 pub enum RawKind {
@@ -93,5 +137,25 @@ pub enum RawKind {
         equation: RawEquation,
         method: RawMethod,
         method_at: u32,
+    },
+    Answer(RawAnswer),
+    /// A line of a certificate: d times the line is a*m times line i less b*n times line j.
+    Line {
+        a: RawNumber,
+        m: RawMono,
+        i: RawNumber,
+        b: RawNumber,
+        n: RawMono,
+        j: RawNumber,
+        d: RawNumber,
+    },
+    /// A step of a certificate: d times the remainder is a times the one before less b*n times
+    /// line j.
+    Step {
+        a: RawNumber,
+        b: RawNumber,
+        n: RawMono,
+        j: RawNumber,
+        d: RawNumber,
     },
 }

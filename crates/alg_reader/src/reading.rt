@@ -4,9 +4,10 @@ ghost use Rattle.std.specs.Prelude.{◌≡◌, ◌≤◌, ◌∷◌, ◌++◌, [
 ghost use Rattle.std.specs.Str.{IsCharBoundary};
 ghost use Rattle.alg_terms.specs.Limits.{MAX_TEXT};
 ghost use Rattle.alg_tokens.specs.declared.token.Token.{Token};
+ghost use Rattle.alg_reader.specs.Places.{MayStand};
 ghost use Rattle.alg_reader.specs.Statements.{IsRead};
-ghost use Rattle.alg_reader.specs.Tokens.{refusal, unread_at};
-ghost use Rattle.alg_reader.specs.WellRead.{IsWellRead, IsReadable};
+ghost use Rattle.alg_reader.specs.Tokens.{refusal};
+ghost use Rattle.alg_reader.specs.WellRead.{IsWellRead};
 
 use crate::cursor::{Cursor, Fault};
 use crate::parts::HeldStatement;
@@ -43,19 +44,19 @@ impl From<AllocError> for FileEnd {
     }
 }
 
-/// Reads the statement at a byte, or the end of the text. All places allow what `Plain` allows.
+/// Reads the statement at a byte that may stand at a place, or the end of the text.
 ///
 /// Refused with the first fault: code 2 or 3 where the text can't be cut, 4 at the first token with
-/// which no statement begins, 5 where the text ends inside the statement, 19 at a `(` where 200 are
-/// open, and 20 at a word that can't be read yet. Takes time and memory in the statement's length.
+/// which no statement begins, 5 where the text ends inside the statement, and 19 at a `(` where 200
+/// are open. Takes time and memory in the statement's length.
 pub fn read_statement(alloc: Global, text: &str, at: u32, place: Place) -> Result<Raw, FileEnd>
     requires size { length text.now ≤ MAX_TEXT }
     requires boundary { IsCharBoundary text.now at }
-    ensures read { IsRead (unread_at place) place text.now at result }
+    ensures read { IsRead place text.now at result }
     ensures well_read { IfOk result (IsWellRead text.now at) }
-    ensures readable { IfOk result (λ raw. IsReadable (unread_at place) raw.kind) }
+    ensures may_stand { IfOk result (λ raw. MayStand place raw.kind) }
 {
-    let cut = cut_statement(alloc, text, at, place)?;
+    let cut = cut_statement(alloc, text, at)?;
     let fault = cut.fault;
     let end = Token {
         kind: TokenKind::End,
@@ -72,7 +73,7 @@ pub fn read_statement(alloc: Global, text: &str, at: u32, place: Place) -> Resul
     }
     let (start, stop) = ends_of(&cut.tokens, at);
     let mut cursor = Cursor::new(&cut.tokens, end);
-    match cursor.statement(alloc) {
+    match cursor.statement(alloc, place) {
         Ok(HeldStatement { kind, too_deep }) => Ok(Raw {
             kind,
             start,

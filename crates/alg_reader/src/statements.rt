@@ -5,27 +5,91 @@ ghost use Rattle.std.specs.Option.{option_or};
 ghost use Rattle.alg_reader.specs.Forms as rules;
 ghost use Rattle.alg_reader.specs.Forms.{rule};
 ghost use Rattle.alg_reader.specs.Reading.{Reads, ReadsNames, ReadsStatement};
-ghost use Rattle.alg_reader.specs.Grammar.{body};
+ghost use Rattle.alg_reader.specs.Grammar.{answer_or, body, line_or, said_at, step_or};
 ghost use Rattle.alg_reader.specs.Parts.{held_statement, HasNoTerms};
 ghost use Rattle.alg_reader.specs.Meaning.{method_value};
 ghost use Rattle.alg_reader.specs.PartMeaning.{sides, sort_word, method_word};
 ghost use Rattle.alg_reader.specs.RawNodes.{is_unequal};
 
 use crate::cursor::{Cursor, Fault};
+use crate::format::Format;
 use crate::parts::{HeldStatement, HeldTerm, span_of};
+use crate::place::Place;
 use crate::raw::{RawEquation, RawKind, RawMethod, Span};
 use alg_terms::{Kind, Seq};
 use alg_tokens::{Sign, Token, TokenKind, Word};
 use std::alloc::Global;
 
 impl Cursor<'_> {
-    /// A statement to its `.`.
-    pub fn statement(&mut self, alloc: Global) -> Result<HeldStatement, Fault>
-        ensures { ReadsStatement (rule rules.Statement) self.old result self.new }
+    /// A statement that may stand at a place, to its `.`.
+    pub fn statement(&mut self, alloc: Global, place: Place) -> Result<HeldStatement, Fault>
+        ensures { ReadsStatement (rule (rules.Statement place)) self.old result self.new }
     {
-        let held_statement = self.body(alloc)?;
+        let said = self.said(alloc, place)?;
         let _dot = self.expect(TokenKind::Sign(Sign::Dot))?;
-        Ok(held_statement)
+        Ok(said)
+    }
+
+    /// What a statement at a place says.
+    fn said(&mut self, alloc: Global, place: Place) -> Result<HeldStatement, Fault>
+        ensures { ReadsStatement (said_at place) self.old result self.new }
+    {
+        match place {
+            Place::Plain | Place::Start => self.body(alloc),
+            Place::AfterGoal => self.after_goal(alloc),
+            Place::Lines => self.among_lines(alloc, Format::One),
+            Place::Steps => self.among_steps(alloc, Format::One),
+            Place::LinesTwo => self.among_lines(alloc, Format::Two),
+            Place::StepsTwo => self.among_steps(alloc, Format::Two),
+        }
+    }
+
+    /// An answer, a declaration or a goal.
+    fn after_goal(&mut self, alloc: Global) -> Result<HeldStatement, Fault>
+        ensures { ReadsStatement (answer_or body) self.old result self.new }
+    {
+        if self.sees(TokenKind::Word(Word::Proved)) {
+            return self.proved(alloc);
+        }
+        if self.sees(TokenKind::Word(Word::No)) {
+            return self.no(alloc);
+        }
+        if self.sees(TokenKind::Word(Word::Zero)) {
+            return self.zero_denominator(alloc);
+        }
+        if self.sees(TokenKind::Word(Word::None)) {
+            return self.none_up_to();
+        }
+        if self.sees(TokenKind::Word(Word::Gave)) {
+            return self.gave_up();
+        }
+        if self.sees_either(TokenKind::Word(Word::Range), TokenKind::Word(Word::Degree)) {
+            return self.stopped();
+        }
+        if self.sees(TokenKind::Word(Word::Atoms)) {
+            return self.stopped();
+        }
+        self.body(alloc)
+    }
+
+    /// A line, a step, a declaration or a goal.
+    fn among_lines(&mut self, alloc: Global, format: Format) -> Result<HeldStatement, Fault>
+        ensures { ReadsStatement (line_or format) self.old result self.new }
+    {
+        if self.sees(TokenKind::Word(Word::Line)) {
+            return self.line(alloc, format);
+        }
+        self.among_steps(alloc, format)
+    }
+
+    /// A step, a declaration or a goal.
+    fn among_steps(&mut self, alloc: Global, format: Format) -> Result<HeldStatement, Fault>
+        ensures { ReadsStatement (step_or format) self.old result self.new }
+    {
+        if self.sees(TokenKind::Word(Word::Step)) {
+            return self.step(alloc, format);
+        }
+        self.body(alloc)
     }
 
     /// What a statement says, by its first word.
@@ -212,7 +276,7 @@ fn is_unequal(kind: TokenKind) -> bool
 }
 
 /// A statement without terms.
-fn plain(kind: RawKind) -> HeldStatement
+pub fn plain(kind: RawKind) -> HeldStatement
     requires { HasNoTerms kind }
     ensures { result ≡ held_statement kind }
 {

@@ -1,6 +1,6 @@
 //! Faults and statements of small texts.
 
-use crate::laws::{one_outcome, statements_are_well_read};
+use crate::laws::{one_outcome, statements_are_well_read, statements_may_stand};
 use crate::{FileEnd, Place, Raw, RawKind, RawMethod, Span, read_statement};
 use alg_terms::{GREATEST_TEXT, Kind};
 use alg_tokens::Refusal;
@@ -9,7 +9,7 @@ use std::alloc::AllocError;
 /// What is read at the front of a text: the bytes of the statement with the head of its first too
 /// deep node, or the code and the byte of the fault.
 #[derive(Clone, Copy, PartialEq, Eq, Debug)]
-enum Found {
+pub enum Found {
     Read(u32, u32),
     Deep(u32),
     Fault(u8, u32),
@@ -17,15 +17,20 @@ enum Found {
 }
 
 /// What is read at the front of a text that is not too long.
-fn read(rt: &HostRuntime, text: &str) -> Result<Raw, FileEnd> {
+fn read(rt: &HostRuntime, text: &str, place: Place) -> Result<Raw, FileEnd> {
     if text.len() > GREATEST_TEXT {
         return Err(FileEnd::NoMemory);
     }
-    read_statement(rt.alloc(), text, 0, Place::Plain)
+    read_statement(rt.alloc(), text, 0, place)
 }
 
 fn first_found(rt: &HostRuntime, text: &str) -> Found {
-    match read(rt, text) {
+    found_at(rt, text, Place::Plain)
+}
+
+/// What is found at the front of a text, where this may stand.
+pub fn found_at(rt: &HostRuntime, text: &str, place: Place) -> Found {
+    match read(rt, text, place) {
         Ok(raw) => match raw.too_deep {
             Some(head) => Found::Deep(head),
             None => Found::Read(raw.start, raw.stop),
@@ -78,19 +83,29 @@ fn the_first_statement_or_fault(rt: HostRuntime) {
         // the text ends inside a statement
         ("ring R", Found::Fault(5, 6)),
         ("ring R # .", Found::Fault(5, 10)),
-        // words that can't be read yet
-        ("hyp H : x = y.", Found::Fault(20, 0)),
+        ("hyp", Found::Fault(5, 3)),
+        // hypotheses, and goals by nsatz with their options in order
+        ("hyp H : x = y.", Found::Read(0, 14)),
+        ("hyp H : x <> y.", Found::Read(0, 15)),
+        ("hyp H x = y.", Found::Fault(4, 6)),
+        ("hyp H : x.", Found::Fault(4, 9)),
+        ("hyp H : x = y by ring.", Found::Fault(4, 14)),
+        ("goal x = y by nsatz.", Found::Read(0, 20)),
+        ("goal x = y by nsatz limit 5.", Found::Read(0, 28)),
         (
-            "goal x = y by nsatz using f(H) power 2.",
-            Found::Fault(20, 14),
+            "goal x = y by nsatz using f(g(H)), K power 2 limit 5.",
+            Found::Read(0, 53),
         ),
-        // of two faults the first, and a word that can't be read before all that follow it
+        ("goal x = y by nsatz limit 5 power 2.", Found::Fault(4, 28)),
+        ("goal x = y by nsatz using power 2.", Found::Fault(4, 26)),
+        ("goal x = y by nsatz using H K.", Found::Fault(4, 28)),
+        ("goal x = y by nsatz using f(H.", Found::Fault(4, 29)),
+        // of two faults the first
         ("goal x y = $.", Found::Fault(4, 7)),
         ("goal $ y = z.", Found::Fault(2, 5)),
-        ("goal x = y by nsatz $", Found::Fault(20, 14)),
+        ("goal x = y by nsatz $", Found::Fault(2, 20)),
         ("goal x = $ by nsatz.", Found::Fault(2, 9)),
         ("goal x y by nsatz.", Found::Fault(4, 7)),
-        ("hyp", Found::Fault(20, 0)),
         ("goal x = hyp", Found::Fault(4, 9)),
         ("goal x = hom", Found::Fault(4, 9)),
     ] {
@@ -99,18 +114,25 @@ fn the_first_statement_or_fault(rt: HostRuntime) {
 }
 
 /// A piece of a text, and how often it stands there one after the other.
-type Piece = (&'static str, u32);
+pub type Piece = (&'static str, u32);
 
 /// The goal with this equation by ring.
 fn goal_of(rt: &HostRuntime, equation: &[Piece]) -> Result<String, AllocError> {
     let mut text = String::new(rt.alloc());
     text.push_str("goal ")?;
-    for (piece, count) in equation {
+    text.push_str(text_of(rt, equation)?.as_str())?;
+    text.push_str(" by ring.")?;
+    Ok(text)
+}
+
+/// The text of these pieces.
+pub fn text_of(rt: &HostRuntime, pieces: &[Piece]) -> Result<String, AllocError> {
+    let mut text = String::new(rt.alloc());
+    for (piece, count) in pieces {
         for _ in 0..*count {
             text.push_str(*piece)?;
         }
     }
-    text.push_str(" by ring.")?;
     Ok(text)
 }
 
@@ -224,17 +246,17 @@ fn is_goal(kind: &RawKind, left: u32, relation: u32, right: u32, place: u32) -> 
 
 #[test]
 fn what_declarations_say(rt: HostRuntime) {
-    let says = match read(&rt, "domain D char 0.") {
+    let says = match read(&rt, "domain D char 0.", Place::Plain) {
         Ok(raw) => is_domain(&raw.kind),
         Err(_) => false,
     };
     assert!(rt; says, "a domain of characteristic 0");
-    let says = match read(&rt, "hom f : R -> S.") {
+    let says = match read(&rt, "hom f : R -> S.", Place::Plain) {
         Ok(raw) => is_morphism(&raw.kind),
         Err(_) => false,
     };
     assert!(rt; says, "a morphism with its source and its target");
-    let says = match read(&rt, "var x yy : R.") {
+    let says = match read(&rt, "var x yy : R.", Place::Plain) {
         Ok(raw) => are_variables(&raw.kind),
         Err(_) => false,
     };
@@ -250,7 +272,7 @@ fn what_goals_say(rt: HostRuntime) {
         ("goal (x + y) = f(x) by ring.", 8, 13, 15, 23),
         ("goal -x - 1 = (-x)^2 by ring.", 8, 12, 18, 24),
     ] {
-        let says = match read(&rt, text) {
+        let says = match read(&rt, text, Place::Plain) {
             Ok(raw) => is_goal(&raw.kind, left, relation, right, place),
             Err(_) => false,
         };
@@ -261,5 +283,6 @@ fn what_goals_say(rt: HostRuntime) {
 #[test]
 fn the_laws_are_called() {
     statements_are_well_read();
+    statements_may_stand();
     one_outcome();
 }

@@ -5,9 +5,8 @@ ghost use Rattle.std.specs.Str.{IsCharBoundary};
 ghost use Rattle.alg_terms.specs.Limits.{MAX_TEXT};
 ghost use Rattle.alg_tokens.specs.declared.token.TokenKind.TheVariants as kinds;
 ghost use Rattle.alg_tokens.specs.declared.token.Sign.TheVariants as signs;
-ghost use Rattle.alg_reader.specs.Tokens.{open_with, stop_code, unread_at, IsStatementCut};
+ghost use Rattle.alg_reader.specs.Tokens.{open_with, IsOneTooMany, IsStatementCut};
 
-use crate::place::Place;
 use alg_terms::GREATEST_OPEN;
 use alg_tokens::{Code, Refusal, Sign, Token, TokenKind, next_token};
 use std::alloc::{AllocError, Global};
@@ -21,15 +20,14 @@ pub struct Cut {
 
 /// Cuts the tokens of the statement at a byte: up to its `.`, to a fault of the cutting, to the end of
 /// the text, or to a token at which reading stops.
-pub fn cut_statement(alloc: Global, text: &str, at: u32, place: Place) -> Result<Cut, AllocError>
+pub fn cut_statement(alloc: Global, text: &str, at: u32) -> Result<Cut, AllocError>
     requires size { length text.now ≤ MAX_TEXT }
     requires boundary { IsCharBoundary text.now at }
-    ensures { IfOk result (λ cut. IsStatementCut (unread_at place) text.now at cut.tokens.items cut.fault) }
+    ensures { IfOk result (λ cut. IsStatementCut text.now at cut.tokens.items cut.fault) }
 {
     let mut tokens = Vec::new(alloc);
     let mut stop = at;
     let mut depth = 0;
-    let mut last = None;
     'tokens: loop {
         let token = match next_token(text, stop) {
             Ok(token) => token,
@@ -45,12 +43,11 @@ pub fn cut_statement(alloc: Global, text: &str, at: u32, place: Place) -> Result
             let fault = Code::End.at(at);
             return Ok(Cut { tokens, fault });
         }
-        if let Some(code) = stop_code(place, depth, last, token.kind) {
-            let fault = code.at(at);
+        if is_one_too_many(depth, token.kind) {
+            let fault = Code::Nesting.at(at);
             return Ok(Cut { tokens, fault });
         }
         depth = open_with(depth, token.kind);
-        last = Some(token.kind);
         stop = token.stop;
     }
 }
@@ -67,27 +64,11 @@ fn is_dot(kind: TokenKind) -> bool
     matches!(kind, TokenKind::Sign(Sign::Dot))
 }
 
-/// Why reading stops at a token, if it does, after one of another kind.
-fn stop_code(place: Place, depth: u32, last: Option<TokenKind>, kind: TokenKind) -> Option<Code>
-    ensures { result ≡ stop_code (unread_at place) depth last kind }
+/// Whether a token is a parenthesis where as many are open as may be.
+fn is_one_too_many(depth: u32, kind: TokenKind) -> bool
+    ensures { IsTrue result ↔ IsOneTooMany depth kind }
 {
-    match kind {
-        TokenKind::Sign(Sign::ParenLeft) => {
-            if depth < GREATEST_OPEN {
-                None
-            } else {
-                Some(Code::Nesting)
-            }
-        }
-        TokenKind::Word(word) => {
-            if place.is_unread(last, word) {
-                Some(Code::Later)
-            } else {
-                None
-            }
-        }
-        _ => None,
-    }
+    matches!(kind, TokenKind::Sign(Sign::ParenLeft)) && depth >= GREATEST_OPEN
 }
 
 /// How many parentheses are open after a token.

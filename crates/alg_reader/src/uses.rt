@@ -1,5 +1,8 @@
 //! The options of nsatz.
 
+ghost use Rattle.std.specs.Prelude.{◌≢◌};
+ghost use Rattle.alg_tokens.specs.declared.token.TokenKind.TheVariants.{End};
+ghost use Rattle.alg_reader.specs.Kinds.{variant};
 ghost use Rattle.alg_reader.specs.Reading.{ReadsAs, ReadsUse, ReadsUses};
 ghost use Rattle.alg_reader.specs.Grammar.{option, options, using};
 ghost use Rattle.alg_reader.specs.PartMeaning.{nsatz_of, option_of, uses_of};
@@ -17,16 +20,17 @@ impl Cursor<'_> {
         ensures { ReadsAs options nsatz_of self.old result self.new }
     {
         let uses = self.uses(alloc)?;
-        let power = self.option(Word::Power)?;
-        let limit = self.option(Word::Limit)?;
+        let power = self.option(TokenKind::Word(Word::Power))?;
+        let limit = self.option(TokenKind::Word(Word::Limit))?;
         Ok(RawMethod::Nsatz { uses, power, limit })
     }
 
-    /// A word and a numeral, or nothing.
-    fn option(&mut self, word: Word) -> Result<Option<RawNumber>, Fault>
-        ensures { ReadsAs (option word) option_of self.old result self.new }
+    /// A word or a sign and a numeral, or nothing.
+    pub fn option(&mut self, kind: TokenKind) -> Result<Option<RawNumber>, Fault>
+        requires { variant kind ≢ variant End }
+        ensures { ReadsAs (option kind) option_of self.old result self.new }
     {
-        if !self.sees(TokenKind::Word(word)) {
+        if !self.sees(kind) {
             return Ok(None);
         }
         let _word = self.take();

@@ -107,7 +107,7 @@ numeral_derived n at =
 
 -- the word of an option and its numeral
 option_derived : (w : Word) (n at place there : ℕ) → place ≡ at + 1 → there ≡ place + length (spelling w) + 1 →
-    IsDerived (option w) (tokens_of at (space ∷ word w ∷ space ∷ numeral n ∷ []))
+    IsDerived (option (kinds.Word w)) (tokens_of at (space ∷ word w ∷ space ∷ numeral n ∷ []))
     (two (one (word_at w place)) (one (token_at (kinds.Number (pos n)) (decimal n) there)))
 option_derived w n at place there place_is there_is =
     given (seq (forms.word w) number) _ _ (spaced_before (forms.word w) number (kinds.Word w) (spelling w)
@@ -130,10 +130,11 @@ nsatz_derived file uses power limit at power_at limit_at power_is limit_is =
     let (x, derived, means) = uses_derived file uses behind in
     let second = option_derived words.Limit limit second_option (second_option + 1) limit_at refl (omega arith) in
     let first = option_derived words.Power power first_option (first_option + 1) power_at refl (omega arith) in
-    let both_options = pieces_before (option words.Power) (option words.Limit)
+    let both_options = pieces_before (option (kinds.Word words.Power)) (option (kinds.Word words.Limit))
     (space ∷ word words.Power ∷ space ∷ numeral power ∷ []) (space ∷ word words.Limit ∷ space ∷ numeral limit ∷ [])
     first_option second_option _ _ (omega arith) first second in
-    let all = pieces_before using (seq (option words.Power) (option words.Limit)) (uses_pieces file uses)
+    let all = pieces_before using (seq (option (kinds.Word words.Power)) (option (kinds.Word words.Limit)))
+    (uses_pieces file uses)
     (option_pieces power limit) behind first_option x _ refl derived both_options in
     let whole = by_rule rules.Method (tokens_of at (method_pieces file (ByNsatz uses power limit))) _
     (first_way _ _ _ _ (token_before (kinds.Word words.Nsatz) (word_at words.Nsatz at) _ _ _ refl all)) in

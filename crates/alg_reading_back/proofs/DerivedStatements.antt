@@ -41,7 +41,7 @@ pub statement_of : (v : Tree) (dot_at : ℕ) (tokens : List Token) (kind : RawKi
     IsStatement Plain tokens kind
 unfolding grammar act
 statement_of v at tokens kind fits spells says = (
-  node rules.Statement (pair v (token (sign_at signs.Dot at))),
+  node (rules.Statement Plain) (pair v (token (sign_at signs.Dot at))),
   (refl, (fits, refl)),
   spells,
   ap (λ x. act_statement (two x (one (sign_at signs.Dot at)))) says,

@@ -1,5 +1,5 @@
 -- Pieces that stand have the parentheses of their kinds, and where their bytes open few, so do their tokens.
-use Rattle.std.proofs.Common.{◌≡◌, ◌≤◌, ℕ, ◌+◌, true, false, List, [], ◌∷◌, ◌++◌, flat_map, length, Option, None, Some, refl, sym, ap, subst, arith, append_assoc}
+use Rattle.std.proofs.Common.{◌≡◌, ◌≤◌, ℕ, ◌+◌, true, false, List, [], ◌∷◌, ◌++◌, flat_map, length, sym, ap, subst, arith, append_assoc}
 use Rattle.std.specs.Char.{IsAsciiDigit}
 use Rattle.std.specs.List.{AllByRecursion}
 use Rattle.std.proofs.lemmas.Bool.Decides.{nat_tests}
@@ -14,9 +14,9 @@ use Rattle.alg_tokens.proofs.Leads.{word_spelled}
 use Rattle.alg_tokens.proofs.Neighbours.{spell, EachEnds}
 use Rattle.alg_tokens.proofs.PieceEnds.{EndsBefore}
 use Rattle.alg_reader.specs.Tokens as reader
-use Rattle.alg_reader.specs.Tokens.{GoesPast, none_unread, stop_code}
+use Rattle.alg_reader.specs.Tokens.{IsOneTooMany, GoesPast}
 use Rattle.alg_reading_back.specs.ReadingBack.{most_open}
-use Rattle.alg_reading_back.proofs.OpenBytes.{is_paren, NoParens, IsEven, opens_first, past_plain, past_lexeme, sign_passes}
+use Rattle.alg_reading_back.proofs.OpenBytes.{is_paren, NoParens, IsEven, opens_first, past_plain, past_lexeme}
 use Rattle.alg_reading_back.proofs.PlainNames.{spelled_plain}
 
 -- a piece has the parentheses of its kind
@@ -79,20 +79,13 @@ few_open depth at (Lexeme kind bytes ∷ pieces) rest even few =
     let first = opens_first (reader.open_with depth kind) later in
     (omega arith, few_open (reader.open_with depth kind) (at + length bytes) pieces rest even.1 (omega arith))
 
--- where few are open, reading by the whole grammar goes past each kind of token
-kind_passes : (depth : ℕ) (last : Option TokenKind) (kind : TokenKind) → reader.open_with depth kind ≤ MAX_OPEN →
-    stop_code none_unread depth last kind ≡ None
-kind_passes depth last (kinds.Sign s) few = sign_passes none_unread depth last s few
-kind_passes depth last (kinds.Word w) few = refl
-kind_passes depth last (kinds.Number n) few = refl
-kind_passes depth last kinds.Name few = refl
-kind_passes depth last kinds.End few = refl
+-- where few are open behind a token, it is not one parenthesis too many
+passes : (depth : ℕ) (kind : TokenKind) → reader.open_with depth kind ≤ MAX_OPEN → ¬ (IsOneTooMany depth kind)
+passes depth kind few (paren, many) =
+    let one_more = ap (reader.open_with depth) paren in absurd (omega arith)
 
--- and past all tokens
-pub few_pass : (depth : ℕ) (last : Option TokenKind) (tokens : List Token) → HasFewOpen depth tokens →
-    GoesPast none_unread depth last tokens
-few_pass depth last [] few = tt
-few_pass depth last (token ∷ tokens) (first, few) = (
-  kind_passes depth last token.kind first,
-  few_pass (reader.open_with depth token.kind) (Some token.kind) tokens few,
-)
+-- so reading goes past all tokens
+pub few_pass : (depth : ℕ) (tokens : List Token) → HasFewOpen depth tokens → GoesPast depth tokens
+few_pass depth [] few = tt
+few_pass depth (token ∷ tokens) (first, few) =
+    (passes depth token.kind first, few_pass (reader.open_with depth token.kind) tokens few)

@@ -16,7 +16,7 @@ use Rattle.alg_tokens.proofs.Neighbours.{spell, spell_append, width_append}
 use Rattle.alg_tokens.specs.declared.code.Code.TheVariants as code
 use Rattle.alg_tokens.specs.Codes.{fault_at}
 use Rattle.alg_reader.specs.declared.reading.Raw.{Raw}
-use Rattle.alg_reader.specs.Tokens.{GoesPast, none_unread}
+use Rattle.alg_reader.specs.Tokens.{GoesPast}
 use Rattle.alg_reader.proofs.Found.{all_split}
 use Rattle.alg_typing.specs.Faults.{first_of}
 use Rattle.alg_typing.specs.NameFaults.{name_faults}
@@ -124,11 +124,11 @@ module _ (law : CutFromAnywhere) (file : File) (valid : IsValid file) (few : Ope
       ap (most_open 0) (sym (spell_append (pieces_of s) (line_feed ∷ [])) ∙ spelled_statement file s is) in
       few_open 0 at (pieces_of s) rest even (omega (arith, whole, low))
 
-  -- reading by the whole grammar goes past it
-  pub passed_by_all : (before after : List Statement) (s : Statement) → file.order ≡ before ++ (s ∷ after) →
-      GoesPast none_unread 0 None (tokens_of (begin before) (pieces_of s))
-  passed_by_all before after s split =
-      few_pass 0 None (tokens_of (begin before) (pieces_of s))
+  -- reading goes past it
+  pub passed_there : (before after : List Statement) (s : Statement) → file.order ≡ before ++ (s ∷ after) →
+      GoesPast 0 (tokens_of (begin before) (pieces_of s))
+  passed_there before after s split =
+      few_pass 0 (tokens_of (begin before) (pieces_of s))
       (tokens_few s (begin before) (statement_of file valid before after s split) (few_there before after s split))
 
   pieces_there : (before after : List Statement) (s : Statement) → file.order ≡ before ++ (s ∷ after) →

@@ -25,10 +25,8 @@ pub mod MethodsBack
 pub mod NamesTaken
 pub mod NextLists
 pub mod OpenBytes
-pub mod PassedStatements
 pub mod PiecesAt
 pub mod PlainNames
-pub mod PlainPieces
 pub mod ReadAt
 pub mod ShallowTerms
 pub mod Shrinking

@@ -1,18 +1,13 @@
 -- How many parentheses are open in the bytes of pieces and in their tokens.
-use Rattle.std.proofs.Common.{◌≡◌, ◌≤◌, ℕ, ◌+◌, Bool, true, false, ◌||◌, ◌==◌, nat_lt, List, [], ◌∷◌, ◌++◌, flat_map, Option, None, Some, length, codes, refl, sym, ap, subst, arith, append_assoc}
+use Rattle.std.proofs.Common.{◌≡◌, ◌≤◌, ℕ, Bool, false, ◌||◌, ◌==◌, List, [], ◌∷◌, ◌++◌, codes, refl, sym, ap, subst, arith}
 use Rattle.std.specs.List.{AllByRecursion, list_any}
 use Rattle.std.proofs.lemmas.Bool.{or_parts}
-use Rattle.std.proofs.lemmas.Bool.Decides.{nat_tests}
-use Rattle.alg_terms.specs.Limits.{MAX_OPEN}
 use Rattle.alg_tokens.specs.declared.token.Sign.{Sign}
 use Rattle.alg_tokens.specs.declared.token.Sign.TheVariants as signs
 use Rattle.alg_tokens.specs.declared.token.TokenKind.{TokenKind}
 use Rattle.alg_tokens.specs.declared.token.TokenKind.TheVariants as kinds
-use Rattle.alg_tokens.specs.Pieces.{Piece, Blank, Lexeme, bytes_of}
 use Rattle.alg_tokens.specs.Spelling.{sign_spelling}
-use Rattle.alg_tokens.specs.Laws.{tokens_of}
 use Rattle.alg_reader.specs.Tokens as reader
-use Rattle.alg_reader.specs.Tokens.{Unread, unread_today, stop_code, GoesPast}
 use Rattle.alg_reading_back.specs.ReadingBack.{open_with, most_open}
 
 -- a parenthesis
@@ -84,54 +79,3 @@ past_lexeme depth kinds.Name bytes rest even = past_plain depth bytes rest even
 past_lexeme depth (kinds.Word w) bytes rest even = past_plain depth bytes rest even
 past_lexeme depth (kinds.Number n) bytes rest even = past_plain depth bytes rest even
 past_lexeme depth kinds.End bytes rest even = past_plain depth bytes rest even
-
--- no word stops reading behind a token of kind `last`
-abbrev pub IsPassed : Option TokenKind → TokenKind → Type 0
-IsPassed last (kinds.Word w) = (depth : ℕ) → stop_code unread_today depth last (kinds.Word w) ≡ None
-IsPassed last (kinds.Sign s) = Unit {0}
-IsPassed last kinds.Name = Unit {0}
-IsPassed last (kinds.Number n) = Unit {0}
-IsPassed last kinds.End = Unit {0}
-
--- where few are open, no lexeme stops reading
-pub sign_passes : (unread : Unread) (depth : ℕ) (last : Option TokenKind) (s : Sign) →
-    reader.open_with depth (kinds.Sign s) ≤ MAX_OPEN → stop_code unread depth last (kinds.Sign s) ≡ None
-sign_passes unread depth last s = elim s as (λ s. reader.open_with depth (kinds.Sign s) ≤ MAX_OPEN →
-    stop_code unread depth last (kinds.Sign s) ≡ None) [
-      | signs.ParenLeft ↦ λ h. let few : nat_lt depth MAX_OPEN ≡ true = grind (arith, nat_tests) in rw few refl
-      | signs.Dot ↦ λ h. refl
-      | _ ↦ λ h. refl
-    ]
-
-passed_kind : (depth : ℕ) (last : Option TokenKind) (kind : TokenKind) → IsPassed last kind →
-    reader.open_with depth kind ≤ MAX_OPEN → stop_code unread_today depth last kind ≡ None
-passed_kind depth last (kinds.Sign s) passed few = sign_passes unread_today depth last s few
-passed_kind depth last kinds.Name passed few = refl
-passed_kind depth last (kinds.Word w) passed few = passed depth
-passed_kind depth last (kinds.Number n) passed few = refl
-passed_kind depth last kinds.End passed few = refl
-
--- reading goes past these pieces behind a token of kind `last`, however many parentheses are open
-abbrev pub Passes : Option TokenKind → List Piece → Type 0
-Passes last [] = Unit {0}
-Passes last (Blank bytes ∷ pieces) = NoParens bytes × Passes last pieces
-Passes last (Lexeme kind bytes ∷ pieces) = IsEven kind bytes × IsPassed last kind × Passes (Some kind) pieces
-
--- where their bytes open few
-pub goes_past : (depth at : ℕ) (last : Option TokenKind) (pieces : List Piece) (rest : List ℕ) → Passes last pieces →
-    most_open depth (flat_map bytes_of pieces ++ rest) ≤ MAX_OPEN →
-    GoesPast unread_today depth last (tokens_of at pieces)
-goes_past depth at last [] rest passes few = tt
-goes_past depth at last (Blank bytes ∷ pieces) rest passes few =
-    let later = flat_map bytes_of pieces ++ rest in
-    let whole = ap (most_open depth) (append_assoc bytes (flat_map bytes_of pieces) rest) in
-    let past = past_plain depth bytes later passes.0 in
-    goes_past depth (at + length bytes) last pieces rest passes.1 (omega arith)
-goes_past depth at last (Lexeme kind bytes ∷ pieces) rest passes few =
-    let later = flat_map bytes_of pieces ++ rest in
-    let whole = ap (most_open depth) (append_assoc bytes (flat_map bytes_of pieces) rest) in
-    let past = past_lexeme depth kind bytes later passes.0 in
-    let first = opens_first (reader.open_with depth kind) later in (
-      passed_kind depth last kind passes.1 (omega arith),
-      goes_past (reader.open_with depth kind) (at + length bytes) (Some kind) pieces rest passes.2 (omega arith),
-    )

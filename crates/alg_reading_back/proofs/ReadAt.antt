@@ -140,10 +140,16 @@ pub numeral_tree : (n : ℤ) (at stop : ℕ) → (v : Tree) × Fits number v ×
     (value v ≡ one (record { kind = kinds.Number n; start = at; stop = stop }))
 numeral_tree (pos zero) at stop =
     (left (token (record { kind = kinds.Number (pos zero); start = at; stop = stop })), refl, refl, refl)
-numeral_tree (pos (suc n)) at stop =
-    (right (token (record { kind = kinds.Number (pos (suc n)); start = at; stop = stop })), refl, refl, refl)
+numeral_tree (pos (suc zero)) at stop =
+    (right (left (token (record { kind = kinds.Number (pos 1); start = at; stop = stop }))), refl, refl, refl)
+numeral_tree (pos (suc (suc n))) at stop = (
+  right (right (token (record { kind = kinds.Number (pos (suc (suc n))); start = at; stop = stop }))),
+  refl,
+  refl,
+  refl,
+)
 numeral_tree (negsuc n) at stop =
-    (right (token (record { kind = kinds.Number (negsuc n); start = at; stop = stop })), refl, refl, refl)
+    (right (right (token (record { kind = kinds.Number (negsuc n); start = at; stop = stop }))), refl, refl, refl)
 
 -- a numeral alone
 pub literal_leaf : (n : ℤ) (at stop : ℕ) → Derives rules.Leaf

@@ -1,17 +1,14 @@
 -- The canonical text of each statement is read as the raw statement that it is, where reading goes past it.
-use Rattle.std.proofs.Common.{◌≡◌, ◌≤◌, inr, ℕ, List, [], ◌∷◌, ◌++◌, flat_map, None, Ok, refl, sym, ap, ◌∙◌, subst, arith}
+use Rattle.std.proofs.Common.{◌≡◌, inr, ℕ, List, ◌∷◌, None, Ok, refl, sym, ap, ◌∙◌, subst}
 use Rattle.std.specs.Option.{option_or}
-use Rattle.std.proofs.lemmas.List.Concat.{flat_map-append}
 use Rattle.alg_terms.specs.declared.file.File.{File}
 use Rattle.alg_terms.specs.declared.file.Statement.{Statement}
 use Rattle.alg_terms.specs.declared.file.Statement.TheVariants as statement
 use Rattle.alg_terms.specs.declared.goals.Equation.{Equation}
 use Rattle.alg_terms.specs.GoalRules.{IsEquation}
-use Rattle.alg_terms.specs.Limits.{MAX_OPEN}
 use Rattle.alg_terms.specs.Members.{sort_at, hom_at, hyp_at, goal_at, no_sort, no_hyp, no_goal}
 use Rattle.alg_terms.specs.Valid.{IsValid}
 use Rattle.alg_tokens.specs.declared.token.Token.{Token}
-use Rattle.alg_tokens.specs.Pieces.{bytes_of}
 use Rattle.alg_tokens.specs.Laws.{tokens_of}
 use Rattle.alg_reader.specs.declared.place.Place.TheVariants.{Plain}
 use Rattle.alg_reader.specs.declared.raw.RawEquation.{RawEquation}
@@ -20,18 +17,14 @@ use Rattle.alg_reader.specs.declared.raw.RawKind.TheVariants as raws
 use Rattle.alg_reader.specs.declared.raw.RawMethod.{RawMethod}
 use Rattle.alg_reader.specs.declared.raw.Span.{Span}
 use Rattle.alg_reader.specs.Statements.{IsStatement, IsRead}
-use Rattle.alg_reader.specs.Tokens.{Unread, unread_today, GoesPast, TokensTo}
+use Rattle.alg_reader.specs.Tokens.{GoesPast, TokensTo}
 use Rattle.alg_reader.specs.TooDeep.{kept, kept_sides, kept_kind, first_too_deep, first_of_sides, first_of_statement}
-use Rattle.alg_printer.specs.Text.{statement_text, IsStatementOf}
-use Rattle.alg_reading_back.specs.ReadingBack.{unanswered, most_open, IsReadToday}
-use Rattle.alg_reading_back.proofs.WrittenTerms.{line_feed, written}
+use Rattle.alg_printer.specs.Text.{IsStatementOf}
+use Rattle.alg_reading_back.proofs.WrittenTerms.{written}
 use Rattle.alg_reading_back.proofs.WrittenStatements.{written_statement}
 use Rattle.alg_reading_back.proofs.DerivedStatements.{sort_derived, hom_derived}
 use Rattle.alg_reading_back.proofs.DerivedGoals.{vars_derived, goal_derived}
 use Rattle.alg_reading_back.proofs.DerivedHyps.{hyp_derived}
-use Rattle.alg_reading_back.proofs.OpenBytes.{goes_past}
-use Rattle.alg_reading_back.proofs.PlainNames.{plain_names}
-use Rattle.alg_reading_back.proofs.PassedStatements.{statement_passes}
 use Rattle.alg_reading_back.proofs.ShallowTerms.{term_kept, term_not_deep}
 
 -- the grammar derives it
@@ -102,46 +95,32 @@ statement_begins file (statement.Vars first count) at = (_, _, refl, refl)
 statement_begins file (statement.Hyp h) at = (_, _, refl, refl)
 statement_begins file (statement.Goal i) at = (_, _, refl, refl)
 
--- ---- what is passed
-
--- today's reading goes past a statement that can be read today
-pub statement_passed : (file : File) → IsValid file → IsReadToday file → (s : Statement) → IsStatementOf file s →
-    flat_map bytes_of ((written_statement file s).pieces ++ (line_feed ∷ []))
-    ≡ statement_text file (unanswered file) s →
-    most_open 0 (statement_text file (unanswered file) s) ≤ MAX_OPEN → (at : ℕ) →
-    GoesPast unread_today 0 None (tokens_of at (written_statement file s).pieces)
-statement_passed file valid today s is spells few at =
-    let pieces = (written_statement file s).pieces in
-    let rest = flat_map bytes_of (line_feed ∷ []) in
-    let whole = ap (most_open 0) (sym (flat_map-append bytes_of pieces (line_feed ∷ [])) ∙ spells) in
-    goes_past 0 at None pieces rest (statement_passes file (plain_names file valid) today s is) (omega arith)
-
 -- ---- what is read
 
 -- a statement that stands and is passed
-read_of : (unread : Unread) (text : List ℕ) (from at stop : ℕ) (tokens : List Token) (kind : RawKind) →
-    BeginsAt at tokens → TokensTo text from tokens stop → GoesPast unread 0 None tokens →
+read_of : (text : List ℕ) (from at stop : ℕ) (tokens : List Token) (kind : RawKind) →
+    BeginsAt at tokens → TokensTo text from tokens stop → GoesPast 0 tokens →
     IsStatement Plain tokens kind → IsKept kind →
-    IsRead unread Plain text from (Ok (record { kind = kind; start = at; stop = stop; too_deep = None }))
+    IsRead Plain text from (Ok (record { kind = kind; start = at; stop = stop; too_deep = None }))
 unfolding IsRead
-read_of unread text from at stop tokens kind (first, more, is, starts) reaches passes derived (whole, shallow) =
+read_of text from at stop tokens kind (first, more, is, starts) reaches passes derived (whole, shallow) =
     inr (
       first,
       more,
       subst (λ ts. TokensTo text from ts stop) is reaches,
-      subst (GoesPast unread 0 None) is passes,
+      subst (GoesPast 0) is passes,
       starts,
       (kind, subst (λ ts. IsStatement Plain ts kind) is derived, (sym whole, sym shallow)),
     )
 
 -- where a text has its tokens and reading goes past them, it is read there
-pub statement_read : (unread : Unread) (file : File) → IsValid file → (s : Statement) → IsStatementOf file s →
+pub statement_read : (file : File) → IsValid file → (s : Statement) → IsStatementOf file s →
     (text : List ℕ) (from at stop : ℕ) → TokensTo text from (tokens_of at (written_statement file s).pieces) stop →
-    GoesPast unread 0 None (tokens_of at (written_statement file s).pieces) →
-    IsRead unread Plain text from
+    GoesPast 0 (tokens_of at (written_statement file s).pieces) →
+    IsRead Plain text from
     (Ok (record { kind = (written_statement file s).raw at; start = at; stop = stop; too_deep = None }))
-statement_read unread file valid s is text from at stop reaches passes =
-    read_of unread text from at stop (tokens_of at (written_statement file s).pieces)
+statement_read file valid s is text from at stop reaches passes =
+    read_of text from at stop (tokens_of at (written_statement file s).pieces)
     ((written_statement file s).raw at)
     (statement_begins file s at) reaches passes (statement_derived file valid s is at)
     (statement_kept file valid s is at)

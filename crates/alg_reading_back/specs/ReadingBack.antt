@@ -1,13 +1,11 @@
 -- The law that the canonical text of a file reads back as the file.
-use Rattle.std.specs.Prelude.{◌≡◌, ◌≤◌, ◌+◌, ◌-◌, ◌==◌, ℕ, if◌then◌else◌, max, List, [], ◌∷◌, All, Option, None, Ok, map}
+use Rattle.std.specs.Prelude.{◌≤◌, ◌+◌, ◌-◌, ◌==◌, ℕ, if◌then◌else◌, max, List, [], ◌∷◌, All, Option, None, Ok, map}
 use Rattle.alg_lines.specs.declared.answer.Answer.{Answer}
 use Rattle.alg_printer.specs.Text.{text_of, statement_text}
-use Rattle.alg_reader.specs.Tokens.{none_unread}
 use Rattle.alg_terms.specs.declared.file.File.{File}
-use Rattle.alg_terms.specs.GoalRules.{IsRingOrField}
 use Rattle.alg_terms.specs.Limits.{MAX_OPEN}
 use Rattle.alg_terms.specs.Valid.{IsValid}
-use Rattle.alg_typing.specs.Reading.{IsReadingOf, IsReadingWith}
+use Rattle.alg_typing.specs.Reading.{IsReadingOf}
 
 -- ---- what is asked of the file
 
@@ -35,20 +33,8 @@ unanswered file = map (λ goal. None) file.goals
 abbrev pub OpensFew : File → Type 0
 OpensFew file = All (λ s. most_open 0 (statement_text file (unanswered file) s) ≤ MAX_OPEN) file.order
 
--- each of its statements can be read today: it has no hypotheses, and its goals are by ring or by field
-pub record IsReadToday (file : File) : Type 0 where
-  pub hyps : file.hyps ≡ []
-  pub goals : All (λ goal. IsRingOrField goal.method) file.goals
-
 -- ---- the law
 
--- the text of a valid file, none of its goals answered, reads as the file by the whole grammar, the words included
--- that can't be read yet
-abbrev pub IsWrittenByGrammar : Type 0
-IsWrittenByGrammar = (file : File) → IsValid file → OpensFew file →
-    IsReadingWith none_unread (text_of file (unanswered file)) (Ok file)
-
--- and where it can be read today, its text reads as the file
+-- the text of a valid file, none of its goals answered, reads as the file
 abbrev pub ReadsBack : Type 0
-ReadsBack = (file : File) → IsValid file → OpensFew file → IsReadToday file →
-    IsReadingOf (text_of file (unanswered file)) (Ok file)
+ReadsBack = (file : File) → IsValid file → OpensFew file → IsReadingOf (text_of file (unanswered file)) (Ok file)

@@ -8,7 +8,14 @@ pub mod Making
 pub mod RingVerdict
 pub mod FieldVerdict
 pub mod Preparing
+pub mod Answers
+pub mod FactorMaps
+pub mod Ends
+pub mod Added
+pub mod MakingFractions
+pub mod MadeSides
 pub mod FieldLaws
 pub mod Stops
 pub mod Laws
+pub mod RightLaws
 pub mod Tried

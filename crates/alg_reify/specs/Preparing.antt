@@ -13,7 +13,9 @@ use Rattle.alg_mono.specs.Polynomials.{PolyOver}
 use Rattle.alg_meaning.specs.Atoms.{Polynomial, minus}
 use Rattle.alg_meaning.specs.PolynomialOf.{poly_of_under}
 use Rattle.alg_meaning.specs.TermOutcome.{term_outcome}
+use Rattle.alg_reify.specs.declared.stop.Stop.{Stop}
 use Rattle.alg_reify.specs.Numbered.{numbered}
+use Rattle.alg_reify.specs.Stops.{ComesTo, Stops}
 use Rattle.alg_reify.specs.Table.{table}
 
 -- the method is nsatz
@@ -86,3 +88,11 @@ module _ (file : File) where
     prepared_outcome =
         first_breach (difference_outcome [] e) (first_breach (uses_outcome uses)
         (product_outcome (goal_difference ∷ nonzero_differences (table file e uses) uses)))
+
+    -- there are not too many atoms, and making the polynomials comes to this
+    abbrev pub PreparesTo : Outcome → Type 0
+    PreparesTo comes = ComesTo (table file e uses) prepared_outcome comes
+
+    -- there are too many atoms, or the first polynomial that breaks a rule breaks this one; want of memory says nothing
+    abbrev pub StopsPreparing : Stop → Type 0
+    StopsPreparing stop = Stops (table file e uses) prepared_outcome stop

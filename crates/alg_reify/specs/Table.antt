@@ -1,5 +1,5 @@
 -- The atoms that occur in terms, and the table of a goal.
-use Rattle.std.specs.Prelude.{ℕ, Bool, ◌&&◌, ◌==◌, List, [], ◌∷◌, ◌++◌, flat_map, slice_get}
+use Rattle.std.specs.Prelude.{ℕ, Bool, ◌&&◌, ◌==◌, nat_le, if◌then◌else◌, List, [], ◌∷◌, ◌++◌, flat_map, length, slice_get}
 use Rattle.std.specs.Cmp.Lexicographic.{pointwise}
 use Rattle.std.specs.Prelude.{nat_eq}
 use Rattle.std.specs.Option.{option_map_or}
@@ -8,8 +8,10 @@ use Rattle.alg_terms.specs.declared.term.Term.{Term}
 use Rattle.alg_terms.specs.declared.term.Term.TheOpen.{Term-F}
 use Rattle.alg_terms.specs.declared.file.File.{File}
 use Rattle.alg_terms.specs.declared.goals.Equation.{Equation}
+use Rattle.alg_terms.specs.declared.goals.Goal.{Goal}
 use Rattle.alg_terms.specs.declared.goals.Use.{Use}
 use Rattle.alg_terms.specs.Lists.{each_once}
+use Rattle.alg_terms.specs.Members.{uses_of}
 use Rattle.alg_terms.specs.Nodes.{fold_term}
 
 -- whether two atoms are one: the same variable under the same path
@@ -47,3 +49,8 @@ table file e uses = each_once atom_eq (equation_leaves [] e ++ flat_map (use_lea
 -- the most atoms that a table may have
 abbrev pub MAX_ATOMS : ℕ
 MAX_ATOMS = 1000
+
+-- the atoms that the monomials of a goal's answer may have: its table, and none where that would have too many
+abbrev pub goal_atoms : File → Goal → List Atom
+goal_atoms file goal =
+    let atoms = table file goal.equation (uses_of goal.method) in if nat_le (length atoms) MAX_ATOMS then atoms else []

@@ -88,8 +88,25 @@ fn make<P: PolynomialForm>(
     }
 }
 
-/// The polynomial that is one atom of the table, a variable under a path: one look-up by its hash.
-pub fn make_atom<P: PolynomialForm>(
+/// The number of a variable's atom under a path: one look-up by its hash.
+pub(crate) fn atom_number(
+    alloc: Global,
+    table: &Atoms,
+    path: &[u32],
+    var: u32,
+) -> Result<u32, NoMemory>
+    requires { Contains table.now (record { path = path.now; var = var }) }
+    ensures { IfOk result (λ k. k ≡ number_of table.now (record { path = path.now; var = var })) }
+{
+    let path = Seq::from_vec(Vec::from_slice(alloc, path)?);
+    match table.find(&Atom { path, var }) {
+        Some(number) => Ok(number),
+        None => unreachable!(),
+    }
+}
+
+/// The polynomial that is one atom of the table, a variable under a path.
+fn make_atom<P: PolynomialForm>(
     alloc: Global,
     table: &Atoms,
     path: &[u32],
@@ -99,9 +116,6 @@ pub fn make_atom<P: PolynomialForm>(
     ensures { IfOk result (λ p.
         P.map p ≡ atom_of (number_of table.now (record { path = path.now; var = var }))) }
 {
-    let path = Seq::from_vec(Vec::from_slice(alloc, path)?);
-    match table.find(&Atom { path, var }) {
-        Some(number) => P::atom(alloc, number),
-        None => unreachable!(),
-    }
+    let number = atom_number(alloc, table, path, var)?;
+    P::atom(alloc, number)
 }

@@ -62,12 +62,6 @@ MayBeBy file e ByRing = DividesNowhere e
 MayBeBy file e ByField = IsByField file e
 MayBeBy file e (ByNsatz uses power limit) = IsNsatz file e uses power limit
 
--- the method is ring or field
-abbrev pub IsRingOrField : Method → Type 0
-IsRingOrField ByRing = Unit {0}
-IsRingOrField ByField = Unit {0}
-IsRingOrField (ByNsatz uses power limit) = ⊥
-
 -- a goal of the file
 pub record IsGoal (file : File) (goal : Goal) : Type 0 where
   pub equation : IsEquation file goal.equation

@@ -1,7 +1,7 @@
 -- The number of each fault, and a fault at a byte.
 use Rattle.std.specs.Prelude.{ℕ}
 use Rattle.alg_tokens.specs.declared.code.Code.{Code}
-use Rattle.alg_tokens.specs.declared.code.Code.TheVariants.{Utf8, Char, Number, Syntax, End, Again, Unknown, WrongUse, Sort, NoSort, Depth, Exponent, Division, NotDomain, NotField, Option, Nesting, Later}
+use Rattle.alg_tokens.specs.declared.code.Code.TheVariants.{Utf8, Char, Number, Syntax, End, Again, Unknown, WrongUse, Sort, NoSort, Depth, Exponent, Division, NotDomain, NotField, Option, Answer, Line, Nesting}
 use Rattle.alg_tokens.specs.declared.token.Refusal.{Refusal}
 
 -- the number by which a refusal tells a fault
@@ -22,8 +22,9 @@ code_number Division = 13
 code_number NotDomain = 14
 code_number NotField = 15
 code_number Option = 16
+code_number Answer = 17
+code_number Line = 18
 code_number Nesting = 19
-code_number Later = 20
 
 -- a fault at a byte
 abbrev pub fault_at : Code → ℕ → Refusal

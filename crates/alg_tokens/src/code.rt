@@ -40,10 +40,13 @@ pub enum Code {
     NotField,
     /// The power or the limit of a goal by nsatz is out of range.
     Option,
+    /// The form of an answer does not belong to the method of its goal.
+    Answer,
+    /// A part of a certificate or a monomial of an answer can't be: a number is too great, an atom is not
+    /// in the table of the goal, a degree is over the greatest, or there is no such version.
+    Line,
     /// Too many parentheses are open.
     Nesting,
-    /// A word can't be read yet.
-    Later,
 }
 
 impl Code {
@@ -68,8 +71,9 @@ impl Code {
             Code::NotDomain => 14,
             Code::NotField => 15,
             Code::Option => 16,
+            Code::Answer => 17,
+            Code::Line => 18,
             Code::Nesting => 19,
-            Code::Later => 20,
         }
     }
 

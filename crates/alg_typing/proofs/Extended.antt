@@ -205,6 +205,9 @@ module _ (file : File) (text : List ℕ) (valid : IsValid file) where
   extends_kind (raws.Goal e method method_at) well names sorts room few =
       let all : 1 + uses_in method ≤ MAX_USES = few (λ h. cc) in
       extends_goal e method method_at well names sorts room (omega arith)
+  extends_kind (raws.Answer said) well names sorts room few = valid
+  extends_kind (raws.Line a m i b n j d) well names sorts room few = valid
+  extends_kind (raws.Step a b n j d) well names sorts room few = valid
 
 -- each member and each use takes a byte of the text
 few_members : (text : List ℕ) (at : ℕ) (raw : Raw) → length text ≤ MAX_TEXT → IsWellRead text at raw →

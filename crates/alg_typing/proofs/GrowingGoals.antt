@@ -88,7 +88,7 @@ module _ (old new : File) (grows : Grows old new) (valid : IsValid old) where
       let same = source_same old new grows f r in
       (r, subst (λ s. s < length old.sorts) (sym same) (valid.homs f no_hom r).source, same)
 
-  field_quotients : (t : Term) (s : ℕ) → s < length old.sorts → EachNode (IsInRange old) t → HasFieldQuotients old s t →
+  pub field_quotients : (t : Term) (s : ℕ) → s < length old.sorts → EachNode (IsInRange old) t → HasFieldQuotients old s t →
       HasFieldQuotients new s t
   field_quotients t s low r h =
       nodes_go_over old new (IsInRange old) (λ s. s < length old.sorts) (λ f. f < length old.homs) known

@@ -7,6 +7,7 @@ pub mod Firsts
 pub mod FreshNames
 pub mod Growing
 pub mod GrowingGoals
+pub mod GrowingAnswers
 pub mod GrowingOrder
 pub mod GrowingTerms
 pub mod Kept

@@ -1,81 +1,42 @@
 -- What one more statement does to what the rest of the text decides.
-use Rattle.std.proofs.Common.{◌≡◌, ◌≢◌, ◌≤◌, ◌<◌, ◌-◌, Fits, w32, inl, inr, ℕ, false, List, [], ◌∷◌, None, Some, Result, Ok, Err, IfOk, IfErr, All, IsErrAnd, refl, sym, subst, arith}
+use Rattle.std.proofs.Common.{◌≡◌, ◌≢◌, ◌≤◌, ◌<◌, ◌-◌, Fits, w32, inl, inr, ℕ, List, [], ◌∷◌, None, Some, Result, Ok, Err, IfOk, IfErr, IsErrAnd, refl, sym, subst, arith}
 use Rattle.std.specs.Str.{IsUtf8}
-use Rattle.std.proofs.lemmas.List.Elements.{All-append, All-cons, All-nil}
 use Rattle.alg_terms.specs.Limits.{MAX_TEXT}
-use Rattle.alg_terms.specs.declared.file.File.{File}
-use Rattle.alg_terms.specs.Valid.{IsValid}
-use Rattle.alg_terms.specs.declared.goals.Goal.{Goal}
-use Rattle.alg_terms.specs.GoalRules.{IsRingOrField}
 use Rattle.alg_tokens.specs.declared.token.Refusal.{Refusal}
-use Rattle.alg_tokens.specs.declared.token.TokenKind.TheVariants as kinds
-use Rattle.alg_tokens.specs.declared.token.Word.TheVariants as words
-use Rattle.alg_reader.specs.declared.place.Place.TheVariants.{Plain}
-use Rattle.alg_reader.specs.declared.raw.RawKind.{RawKind}
 use Rattle.alg_reader.specs.declared.raw.RawKind.TheVariants as raws
-use Rattle.alg_reader.specs.declared.raw.RawMethod.{RawMethod}
-use Rattle.alg_reader.specs.declared.raw.RawMethod.TheVariants as methods
 use Rattle.alg_reader.specs.declared.reading.FileEnd.{FileEnd}
 use Rattle.alg_reader.specs.declared.reading.FileEnd.TheVariants.{Refused, NoMemory}
 use Rattle.alg_reader.specs.declared.reading.Raw.{Raw}
 use Rattle.alg_reader.specs.Statements.{IsRead}
-use Rattle.alg_reader.specs.Tokens.{unread_today}
-use Rattle.alg_reader.specs.WellRead.{IsReadable, word_of}
 use Rattle.alg_typing.specs.Ends.{RefusesWith}
-use Rattle.alg_typing.specs.Reading.{first_fault, GoesOnWith, ReadsFile, IsReadingOf, no_statements}
-use Rattle.alg_typing.specs.Resolved.{extended, method_of}
+use Rattle.alg_typing.specs.Ways.{Way, GoesOnWith, Reads, IsReadingBy}
 
--- the goal is by ring or by field
-abbrev pub IsBySides : Goal → Type 0
-IsBySides goal = IsRingOrField goal.method
-
--- so is each goal whose method's word can be read today
-read_method : (file : File) (text : List ℕ) (method : RawMethod) →
-    unread_today (Some (kinds.Word words.By)) (word_of method) ≡ false → IsRingOrField (method_of file text method)
-read_method file text methods.Ring read = tt
-read_method file text methods.Field read = tt
-read_method file text (methods.Nsatz uses power limit) read = absurd (cc)
-
--- with one more statement that can be read today all goals are so
-pub still_by_sides : (file : File) (text : List ℕ) (kind : RawKind) → All IsBySides file.goals →
-    IsReadable unread_today kind → All IsBySides (extended file text kind).goals
-still_by_sides file text raws.End all read = all
-still_by_sides file text (raws.Sort kind name char0) all read = all
-still_by_sides file text (raws.Hom name from to) all read = all
-still_by_sides file text (raws.Vars names sort) all read = all
-still_by_sides file text (raws.Hyp name e) all read = all
-still_by_sides file text (raws.Goal e method place) all read =
-    All-append IsBySides file.goals _ all
-    (All-cons IsBySides _ [] (read_method file text method read) (All-nil IsBySides))
-
-module _ (text : List ℕ) (file : File) where
+module _ {S X : Type 0} (way : Way S X) (text : List ℕ) (first : S) where
   -- what the rest of the text is read to be decides what all of it is
-  abbrev pub Decides : ℕ → File → Type 0
-  Decides at now = (outcome : Result File Refusal) → ReadsFile unread_today text at now outcome →
-      ReadsFile unread_today text 0 file outcome
+  abbrev pub Decides : ℕ → S → Type 0
+  Decides at now = (outcome : Result X Refusal) → Reads way text at now outcome → Reads way text 0 first outcome
 
-  pub decides_still : (at : ℕ) (now then : File) (raw : Raw) → Decides at now →
-      IsRead unread_today Plain text at (Ok raw) →
-      raw.kind ≢ raws.End → first_fault now text raw ≡ None → then ≡ extended now text raw.kind → Decides raw.stop then
+  pub decides_still : (at : ℕ) (now then : S) (raw : Raw) → Decides at now →
+      IsRead (way.place now) text at (Ok raw) → raw.kind ≢ raws.End → way.fault now raw ≡ None →
+      then ≡ way.next now raw → Decides raw.stop then
   decides_still at now then raw decides read goes none is outcome (raws, on) =
       decides outcome
-      (raw ∷ raws, (read, goes, none, subst (λ (f : File). GoesOnWith unread_today text raw.stop f raws outcome) is on))
+      (raw ∷ raws, (read, goes, none, subst (λ (s : S). GoesOnWith way text raw.stop s raws outcome) is on))
 
-  pub ends_here : (at : ℕ) (now : File) (raw : Raw) → Decides at now → IsRead unread_today Plain text at (Ok raw) →
-      raw.kind ≡ raws.End →
-      ReadsFile unread_today text 0 file (Ok now)
-  ends_here at now raw decides read ends = decides (Ok now) ([], (raw, read, ends, refl))
+  pub ends_here : (at : ℕ) (now : S) (raw : Raw) → Decides at now → IsRead (way.place now) text at (Ok raw) →
+      raw.kind ≡ raws.End → Reads way text 0 first (Ok (way.whole now))
+  ends_here at now raw decides read ends = decides (Ok (way.whole now)) ([], (raw, read, ends, refl))
 
   -- what can't be read is told, want of memory aside
-  pub told_reading : (at : ℕ) (now : File) (e : FileEnd) → Decides at now → IsRead unread_today Plain text at (Err e) →
-      RefusesWith e (λ fault. ReadsFile unread_today text 0 file (Err fault))
+  pub told_reading : (at : ℕ) (now : S) (e : FileEnd) → Decides at now → IsRead (way.place now) text at (Err e) →
+      RefusesWith e (λ fault. Reads way text 0 first (Err fault))
   told_reading at now NoMemory decides read = tt
   told_reading at now (Refused fault) decides read = decides (Err fault) ([], inl read)
 
-  pub told_fault : (at : ℕ) (now : File) (raw : Raw) (e : FileEnd) → Decides at now →
-      IsRead unread_today Plain text at (Ok raw) →
-      raw.kind ≢ raws.End → RefusesWith e (λ fault. first_fault now text raw ≡ Some fault) →
-      RefusesWith e (λ fault. ReadsFile unread_today text 0 file (Err fault))
+  pub told_fault : (at : ℕ) (now : S) (raw : Raw) (e : FileEnd) → Decides at now →
+      IsRead (way.place now) text at (Ok raw) → raw.kind ≢ raws.End →
+      RefusesWith e (λ fault. way.fault now raw ≡ Some fault) →
+      RefusesWith e (λ fault. Reads way text 0 first (Err fault))
   told_fault at now raw NoMemory decides read goes is = tt
   told_fault at now raw (Refused fault) decides read goes is = decides (Err fault) ([], inr (raw, read, goes, is))
 
@@ -93,23 +54,22 @@ pub passed_on : {A : Type 0} (P : Refusal → Type 0) (r : Result A FileEnd) (e 
 passed_on P (Ok a) e is told = absurd is
 passed_on P (Err x) e is told = subst (λ (end : FileEnd). RefusesWith end P) (sym is) told
 
-module _ (bytes text : List ℕ) (is : text ≡ bytes) (utf8 : IsUtf8 bytes) where
-  is_reading : (outcome : Result File Refusal) → ReadsFile unread_today text 0 no_statements outcome →
-      IsReadingOf bytes outcome
-  is_reading outcome reads =
-      inl (utf8, subst (λ (t : List ℕ). ReadsFile unread_today t 0 no_statements outcome) is reads)
+module _ {S X : Type 0} (way : List ℕ → Way S X) (first : S) (bytes text : List ℕ) (is : text ≡ bytes)
+    (utf8 : IsUtf8 bytes) where
+  pub is_reading : (outcome : Result X Refusal) → Reads (way text) text 0 first outcome →
+      IsReadingBy (way bytes) first bytes outcome
+  is_reading outcome reads = inl (utf8, subst (λ (t : List ℕ). Reads (way t) t 0 first outcome) is reads)
 
-  -- the file of a text is that of its bytes
-  pub read_all : (r : Result File FileEnd) → IfOk r
-      (λ file. ReadsFile unread_today text 0 no_statements (Ok file) × IsValid file) →
-      IfOk r (λ file. IsReadingOf bytes (Ok file) × IsValid file)
-  read_all (Ok file) (reads, valid) = (is_reading (Ok file) reads, valid)
-  read_all (Err e) told = tt
+  -- what a text is, is what its bytes are
+  pub read_all : (P : X → Type 0) (r : Result X FileEnd) → IfOk r (λ x. Reads (way text) text 0 first (Ok x) × P x) →
+      IfOk r (λ x. IsReadingBy (way bytes) first bytes (Ok x) × P x)
+  read_all P (Ok x) (reads, holds) = (is_reading (Ok x) reads, holds)
+  read_all P (Err e) told = tt
 
   -- the fault of a text is that of its bytes
-  pub told_all : (r : Result File FileEnd) →
-      IfErr r (λ end. RefusesWith end (λ fault. ReadsFile unread_today text 0 no_statements (Err fault))) →
-      IfErr r (λ end. RefusesWith end (λ fault. IsReadingOf bytes (Err fault)))
-  told_all (Ok file) told = tt
+  pub told_all : (r : Result X FileEnd) →
+      IfErr r (λ end. RefusesWith end (λ fault. Reads (way text) text 0 first (Err fault))) →
+      IfErr r (λ end. RefusesWith end (λ fault. IsReadingBy (way bytes) first bytes (Err fault)))
+  told_all (Ok x) told = tt
   told_all (Err NoMemory) told = tt
   told_all (Err (Refused fault)) told = is_reading (Err fault) told

@@ -3,9 +3,11 @@ use Rattle.std.proofs.Common.{◌≡◌, ◌≢◌, ◌≤◌, ◌<◌, ◌+◌,
 use Rattle.std.proofs.lemmas.List.{length-map}
 use Rattle.alg_terms.specs.declared.file.File.{File}
 use Rattle.alg_terms.specs.Limits.{MEMBERS_END, MAX_TEXT}
+use Rattle.alg_reader.specs.declared.place.Place.TheVariants.{Plain}
 use Rattle.alg_reader.specs.declared.raw.RawKind.{RawKind}
 use Rattle.alg_reader.specs.declared.raw.RawKind.TheVariants as raws
 use Rattle.alg_reader.specs.declared.reading.Raw.{Raw}
+use Rattle.alg_reader.specs.Places.{MayStand}
 use Rattle.alg_reader.specs.WellRead.{IsWellRead, IsWellKind, members_in}
 use Rattle.alg_typing.specs.Reading.{no_statements}
 use Rattle.alg_typing.specs.Resolved.{extended}
@@ -50,6 +52,9 @@ at_least_one text (raws.Hom name from to) well other = grind (arith)
 at_least_one text (raws.Vars names sort) well other = well.0
 at_least_one text (raws.Hyp name e) well other = grind (arith)
 at_least_one text (raws.Goal e method place) well other = grind (arith)
+at_least_one text (raws.Answer said) well other = grind (arith)
+at_least_one text (raws.Line a m i b n j d) well other = grind (arith)
+at_least_one text (raws.Step a b n j d) well other = grind (arith)
 
 module _ (file : File) (text : List ℕ) (at start stop : ℕ) (few : HasAtMost file at) (starts : at ≤ start) where
   same : start + 1 ≤ stop → HasAtMost file stop
@@ -115,6 +120,9 @@ module _ (file : File) (text : List ℕ) (at start stop : ℕ) (few : HasAtMost 
         goals = one_more file.goals _ at start stop few.goals starts one;
         order = one_more file.order _ at start stop few.order starts one;
       }
+  grown (raws.Answer said) one long = same one
+  grown (raws.Line a m i b n j d) one long = same one
+  grown (raws.Step a b n j d) one long = same one
 
 fits : (n at start stop m size : ℕ) → n ≤ at → at ≤ start → start + m ≤ stop → stop ≤ size → size ≤ MAX_TEXT →
     n + m < MEMBERS_END
@@ -122,19 +130,23 @@ fits n at start stop m size most starts long inside least =
     let all : n + m ≤ MAX_TEXT = omega arith in grind (arith)
 
 -- the list to which the statement adds has room
-fits_in : (file : File) (kind : RawKind) (at start stop size : ℕ) → HasAtMost file at → at ≤ start →
+fits_in : (file : File) (kind : RawKind) (at start stop size : ℕ) → MayStand Plain kind → HasAtMost file at →
+    at ≤ start →
     start + members_in kind ≤ stop → start + 1 ≤ stop → stop ≤ size → size ≤ MAX_TEXT → HasRoomIn file kind
-fits_in file raws.End at start stop size few starts long one inside least = tt
-fits_in file (raws.Sort kind name char0) at start stop size few starts long one inside least =
+fits_in file raws.End at start stop size may few starts long one inside least = tt
+fits_in file (raws.Sort kind name char0) at start stop size may few starts long one inside least =
     fits _ at start stop 1 size few.sorts starts one inside least
-fits_in file (raws.Hom name from to) at start stop size few starts long one inside least =
+fits_in file (raws.Hom name from to) at start stop size may few starts long one inside least =
     fits _ at start stop 1 size few.homs starts one inside least
-fits_in file (raws.Vars names sort) at start stop size few starts long one inside least =
+fits_in file (raws.Vars names sort) at start stop size may few starts long one inside least =
     fits _ at start stop (length names) size few.vars starts long inside least
-fits_in file (raws.Hyp name e) at start stop size few starts long one inside least =
+fits_in file (raws.Hyp name e) at start stop size may few starts long one inside least =
     fits _ at start stop 1 size few.hyps starts one inside least
-fits_in file (raws.Goal e method place) at start stop size few starts long one inside least =
+fits_in file (raws.Goal e method place) at start stop size may few starts long one inside least =
     fits _ at start stop 1 size few.goals starts one inside least
+fits_in file (raws.Answer said) at start stop size may few starts long one inside least = absurd may
+fits_in file (raws.Line a m i b n j d) at start stop size may few starts long one inside least = absurd may
+fits_in file (raws.Step a b n j d) at start stop size may few starts long one inside least = absurd may
 
 module _ (file : File) (text : List ℕ) (at : ℕ) (raw : Raw) (few : HasAtMost file at) (well : IsWellRead text at raw)
     (goes : raw.kind ≢ raws.End) (size : length text ≤ MAX_TEXT) where
@@ -145,12 +157,12 @@ module _ (file : File) (text : List ℕ) (at : ℕ) (raw : Raw) (few : HasAtMost
       omega arith
 
   -- the file has room for the statement
-  pub has_room : HasRoom file raw.kind
-  has_room =
+  pub has_room : MayStand Plain raw.kind → HasRoom file raw.kind
+  has_room may =
       let inside = well.stops.0 in
       let long = well.long goes in
       record {
-        members = fits_in file raw.kind at raw.start raw.stop (length text) few well.starts long longer inside size;
+        members = fits_in file raw.kind at raw.start raw.stop (length text) may few well.starts long longer inside size;
         order = fits _ at raw.start raw.stop 1 (length text) few.order well.starts longer inside size;
       }
 

@@ -8,16 +8,15 @@ use Rattle.alg_terms.specs.TermRules.{HasExponent, HasAgreeingParts, HasFittingA
 use Rattle.alg_tokens.specs.declared.token.Refusal.{Refusal}
 use Rattle.alg_reader.specs.declared.raw.RawEquation.{RawEquation}
 use Rattle.alg_reader.specs.declared.raw.RawTerm.{RawTerm}
-use Rattle.alg_reader.specs.Tokens.{Unread}
-use Rattle.alg_typing.specs.Reading.{IsReadingWith}
+use Rattle.alg_typing.specs.Reading.{IsReadingOf}
 use Rattle.alg_typing.specs.Resolved.{term_of}
 use Rattle.alg_typing.specs.SortFaults.{sort_of_sides}
 use Rattle.alg_typing.specs.TermSorts.{sorted}
 
--- a text has at most one outcome, whatever words can't be read yet: it is one file, or has one first fault
+-- a text has at most one outcome: it is one file, or has one first fault
 abbrev pub OneReading : Type 0
-OneReading = (unread : Unread) (bytes : List ℕ) (one other : Result File Refusal) → IsReadingWith unread bytes one
-    → IsReadingWith unread bytes other → one ≡ other
+OneReading = (bytes : List ℕ) (one other : Result File Refusal) → IsReadingOf bytes one → IsReadingOf bytes other
+    → one ≡ other
 
 -- the own sort of a term that was read is the own sort of the term with its names resolved
 abbrev pub OneOwnSort : Type 0

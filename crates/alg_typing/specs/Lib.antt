@@ -9,6 +9,7 @@ pub mod Additions
 pub mod Checks
 pub mod TermsOf
 pub mod Wanted
+pub mod Ways
 pub mod Reading
 pub mod AnswerTerms
 pub mod Room

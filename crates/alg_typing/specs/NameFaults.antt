@@ -65,7 +65,7 @@ module _ (file : File) (text : List ℕ) where
   method_names methods.Field = []
   method_names (methods.Nsatz uses power limit) = flat_map use_names uses
 
-  -- the faults of the names of a statement
+  -- the faults of the names of a declaration or a goal
   abbrev pub name_faults : RawKind → List Refusal
   name_faults raws.End = []
   name_faults (raws.Sort kind name char0) = new_name [] name
@@ -73,3 +73,4 @@ module _ (file : File) (text : List ℕ) where
   name_faults (raws.Vars names sort) = new_names [] names ++ used_name is_sort sort
   name_faults (raws.Hyp name e) = new_name [] name ++ equation_names e
   name_faults (raws.Goal e method method_at) = equation_names e ++ method_names method
+  name_faults _ = []

@@ -1,21 +1,17 @@
 -- The file that a text is, or its first fault.
-use Rattle.std.specs.Prelude.{◌≡◌, ◌≢◌, ◌⊎◌, ℕ, List, [], ◌∷◌, Option, None, Some, Result, Ok, Err}
+use Rattle.std.specs.Prelude.{ℕ, List, [], Option, Result}
 use Rattle.std.specs.Option.{option_or, option_map}
-use Rattle.std.specs.Str.{IsUtf8, IsValidUpTo}
 use Rattle.alg_terms.specs.declared.file.File.{File}
 use Rattle.alg_tokens.specs.declared.code.Code.TheVariants as code
 use Rattle.alg_tokens.specs.declared.token.Refusal.{Refusal}
 use Rattle.alg_tokens.specs.Codes.{fault_at}
 use Rattle.alg_reader.specs.declared.place.Place.TheVariants.{Plain}
-use Rattle.alg_reader.specs.declared.raw.RawKind.TheVariants.{End}
-use Rattle.alg_reader.specs.declared.reading.FileEnd.TheVariants.{Refused}
 use Rattle.alg_reader.specs.declared.reading.Raw.{Raw}
-use Rattle.alg_reader.specs.Statements.{IsRead}
-use Rattle.alg_reader.specs.Tokens.{Unread, unread_at}
 use Rattle.alg_typing.specs.Faults.{first_of}
 use Rattle.alg_typing.specs.NameFaults.{name_faults}
 use Rattle.alg_typing.specs.Resolved.{extended}
 use Rattle.alg_typing.specs.SortFaults.{sort_faults}
+use Rattle.alg_typing.specs.Ways.{Way, Reads, IsReadingBy}
 
 -- the file without statements
 abbrev pub no_statements : File
@@ -28,35 +24,19 @@ first_fault file text raw =
     option_or (option_map (fault_at code.Depth) raw.too_deep)
     (option_or (first_of (name_faults file text raw.kind)) (first_of (sort_faults file text raw.kind)))
 
-module _ (unread : Unread) (text : List ℕ) where
-  -- what stands at a byte behind the statements of a file: the end of the text, a statement that can't be read, or one
-  -- with a fault
-  abbrev pub EndsWith : ℕ → File → Result File Refusal → Type 0
-  EndsWith at file (Ok whole) = (raw : Raw) × IsRead unread Plain text at (Ok raw) × (raw.kind ≡ End) × (whole ≡ file)
-  EndsWith at file (Err first) =
-      IsRead unread Plain text at (Err (Refused first))
-      ⊎ ((raw : Raw) × IsRead unread Plain text at (Ok raw) × (raw.kind ≢ End)
-      × (first_fault file text raw ≡ Some first))
+-- files are read without answers, each statement added to those before it
+abbrev pub file_way : List ℕ → Way File File
+file_way text = record {
+  place = λ file. Plain;
+  fault = λ file raw. first_fault file text raw;
+  next = λ file raw. extended file text raw.kind;
+  whole = λ file. file;
+}
 
-  -- from a byte on the text has these statements without fault, each read after those before it, and then its end or
-  -- its first fault
-  abbrev pub GoesOnWith : ℕ → File → List Raw → Result File Refusal → Type 0
-  GoesOnWith at file [] outcome = EndsWith at file outcome
-  GoesOnWith at file (raw ∷ raws) outcome =
-      IsRead unread Plain text at (Ok raw) × (raw.kind ≢ End) × (first_fault file text raw ≡ None)
-      × GoesOnWith raw.stop (extended file text raw.kind) raws outcome
+-- from a byte on the text goes on with some statements behind those of a file
+abbrev pub ReadsFile : List ℕ → ℕ → File → Result File Refusal → Type 0
+ReadsFile text at file outcome = Reads (file_way text) text at file outcome
 
-  -- from a byte on the text goes on with some statements
-  abbrev pub ReadsFile : ℕ → File → Result File Refusal → Type 0
-  ReadsFile at file outcome = (raws : List Raw) × GoesOnWith at file raws outcome
-
--- where some words can't be read yet, the file that these bytes are, or their first fault: they are no UTF-8, or the
--- first statement with a fault has it
-abbrev pub IsReadingWith : Unread → List ℕ → Result File Refusal → Type 0
-IsReadingWith unread bytes outcome =
-    (IsUtf8 bytes × ReadsFile unread bytes 0 no_statements outcome)
-    ⊎ (¬ (IsUtf8 bytes) × ((end : ℕ) × IsValidUpTo bytes end × (outcome ≡ Err (fault_at code.Utf8 end))))
-
--- today's reading of a file without answers
+-- the file that these bytes are, or their first fault
 abbrev pub IsReadingOf : List ℕ → Result File Refusal → Type 0
-IsReadingOf = IsReadingWith (unread_at Plain)
+IsReadingOf bytes outcome = IsReadingBy (file_way bytes) no_statements bytes outcome

@@ -74,7 +74,7 @@ module _ (file : File) (text : List ℕ) where
   abbrev pub vars_of : ℕ → List Span → List VarDecl
   vars_of sort names = map (λ name. record { name = bytes_at text name; sort = sort }) names
 
-  -- the file with one more statement at its end
+  -- the file with one more declaration or goal at its end
   abbrev pub extended : RawKind → File
   extended raws.End = file
   extended (raws.Sort kind name char0) = record file {
@@ -97,3 +97,4 @@ module _ (file : File) (text : List ℕ) where
     goals = file.goals ++ record { equation = equation_of e; method = method_of method } ∷ [];
     order = file.order ++ statement.Goal (length file.goals) ∷ [];
   }
+  extended _ = file

@@ -84,7 +84,7 @@ module _ (file : File) (text : List ℕ) where
   may_divide_by methods.Field = true
   may_divide_by _ = false
 
-  -- the faults of a statement
+  -- the faults of a declaration or a goal
   abbrev pub sort_faults : RawKind → List Refusal
   sort_faults (raws.Hyp name e) = equation_sorts false e
   sort_faults (raws.Goal e method method_at) =

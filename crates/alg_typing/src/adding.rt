@@ -35,8 +35,8 @@ impl Scope<'_> {
 }
 
 impl Declared {
-    /// Adds a statement that was read from the text, or tells its first fault, by the names that
-    /// are declared so far. Where it fails nothing is changed. Linear in the statement.
+    /// Adds a declaration or a goal that was read from the text, or tells its first fault, by the names
+    /// that are declared so far. Where it fails nothing is changed. Linear in the statement.
     #[tactic(none)]
     pub fn add(&mut self, alloc: Global, text: &str, raw: Raw) -> Result<(), FileEnd>
         requires size { length text.now ≤ MAX_TEXT }
@@ -102,7 +102,9 @@ impl Declared {
             text,
         };
         match &raw.kind {
-            RawKind::End => Ok(()),
+            RawKind::End | RawKind::Answer(_) | RawKind::Line { .. } | RawKind::Step { .. } => Ok(
+                (),
+            ),
             RawKind::Sort { kind, name, char0 } => {
                 self.add_sort(alloc, text, *name, *kind, *char0)
             }

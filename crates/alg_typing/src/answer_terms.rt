@@ -31,7 +31,7 @@ fn may_divide(method: &Method) -> bool
 impl Scope<'_> {
     /// The first fault of the sorts of a term of an answer to a goal.
     #[tactic(none)]
-    fn answer_sorts(&self, goal: &Goal, raw: &RawTerm) -> Option<Refusal>
+    pub(crate) fn answer_sorts(&self, goal: &Goal, raw: &RawTerm) -> Option<Refusal>
         requires { IsTermOf self.now.text.now raw.now }
         ensures { result ≡ first_of (answer_sorts self.now.declared.now self.now.text.now goal.now raw.now) }
     {

@@ -6,14 +6,14 @@ ghost use Rattle.alg_typing.specs.Faults.{earlier_of, fault_if, first_of};
 use alg_tokens::{Code, Refusal};
 
 /// A fault at a byte, where there is one.
-pub(crate) fn fault_where(there: bool, code: Code, at: u32) -> Option<Refusal>
+pub fn fault_where(there: bool, code: Code, at: u32) -> Option<Refusal>
     ensures { result ≡ first_of (fault_if there code at) }
 {
     if there { Some(code.at(at)) } else { None }
 }
 
 /// Of two, where there are any, the one that comes first.
-pub(crate) fn earlier(first: Option<Refusal>, second: Option<Refusal>) -> Option<Refusal>
+pub fn earlier(first: Option<Refusal>, second: Option<Refusal>) -> Option<Refusal>
     ensures { result ≡ earlier_of first second }
 {
     match (first, second) {

@@ -5,6 +5,7 @@
 #![tactic(auto)]
 
 mod adding;
+mod answer_parts;
 mod answer_terms;
 #[cfg(test)]
 mod answer_tests;
@@ -27,4 +28,5 @@ mod tests;
 pub use alg_reader::FileEnd;
 pub use declaration::Declaration;
 pub use declared::Declared;
+pub use faults::{earlier, fault_where};
 pub use reading::read_file;

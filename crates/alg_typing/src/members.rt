@@ -69,7 +69,7 @@ impl Declared {
     }
 
     /// A goal of the file so far.
-    pub(crate) fn goal_at(&self, goal: u32) -> &Goal
+    pub fn goal_at(&self, goal: u32) -> &Goal
         requires { goal < length self.now.goals }
         ensures { result.now ≡ goal_at self.now goal }
     {

@@ -66,7 +66,7 @@ impl Scope<'_> {
     }
 
     /// The first fault of the names of a path of morphisms.
-    fn path_names(&self, path: &[Span]) -> Option<Refusal>
+    pub(crate) fn path_names(&self, path: &[Span]) -> Option<Refusal>
         requires { All (IsNameAt self.now.text.now) path.now }
         ensures { result ≡ first_of (flat_map (used_name self.now.declared.now self.now.text.now is_hom) path.now) }
     {
@@ -149,7 +149,9 @@ impl Scope<'_> {
             (λ fault. fault ≡ first_of (name_faults self.now.declared.now self.now.text.now kind.now)) }
     {
         match kind {
-            RawKind::End => Ok(None),
+            RawKind::End | RawKind::Answer(_) | RawKind::Line { .. } | RawKind::Step { .. } => Ok(
+                None,
+            ),
             RawKind::Sort { name, .. } => Ok(self.new_name(*name)),
             RawKind::Hom { name, from, to } => {
                 let sorts = earlier(

@@ -1,10 +1,8 @@
 //! The file that a text is, or its first fault.
 
-ghost use Rattle.std.specs.Prelude.{◌≡◌, ◌≤◌, length, All, Ok, Err, IfOk, IfErr};
-ghost use Rattle.alg_terms.specs.GoalRules.{IsRingOrField};
+ghost use Rattle.std.specs.Prelude.{◌≡◌, ◌≤◌, length, Ok, Err, IfOk, IfErr};
 ghost use Rattle.alg_terms.specs.Limits.{MAX_TEXT};
 ghost use Rattle.alg_terms.specs.Valid.{IsValid};
-ghost use Rattle.alg_reader.specs.Tokens.{unread_at};
 ghost use Rattle.alg_typing.specs.Ends.{RefusesWith};
 ghost use Rattle.alg_typing.specs.Reading.{IsReadingOf, ReadsFile, no_statements};
 
@@ -22,7 +20,6 @@ pub fn read_file(alloc: Global, bytes: &[u8]) -> Result<File, FileEnd>
     requires { length bytes.now ≤ MAX_TEXT }
     ensures ok { IfOk result (λ file. IsReadingOf bytes.now (Ok file) × IsValid file) }
     ensures refused { IfErr result (λ end. RefusesWith end (λ fault. IsReadingOf bytes.now (Err fault))) }
-    ensures methods { IfOk result (λ file. All (λ goal. IsRingOrField goal.method) file.goals) }
 {
     match str::from_utf8(bytes) {
         Ok(text) => read_text(alloc, text),
@@ -37,11 +34,10 @@ pub fn read_file(alloc: Global, bytes: &[u8]) -> Result<File, FileEnd>
 #[tactic(none)]
 fn read_text(alloc: Global, text: &str) -> Result<File, FileEnd>
     requires { length text.now ≤ MAX_TEXT }
-    ensures ok { IfOk result (λ file. ReadsFile (unread_at Place.Plain) text.now 0 no_statements (Ok file)
+    ensures ok { IfOk result (λ file. ReadsFile text.now 0 no_statements (Ok file)
         × IsValid file) }
     ensures refused { IfErr result
-        (λ end. RefusesWith end (λ fault. ReadsFile (unread_at Place.Plain) text.now 0 no_statements (Err fault))) }
-    ensures methods { IfOk result (λ file. All (λ goal. IsRingOrField goal.method) file.goals) }
+        (λ end. RefusesWith end (λ fault. ReadsFile text.now 0 no_statements (Err fault))) }
 {
     Ok(read_declared(alloc, text)?.into_file())
 }
@@ -50,10 +46,9 @@ fn read_text(alloc: Global, text: &str) -> Result<File, FileEnd>
 #[tactic(none)]
 pub(crate) fn read_declared(alloc: Global, text: &str) -> Result<Declared, FileEnd>
     requires { length text.now ≤ MAX_TEXT }
-    ensures ok { IfOk result (λ file. ReadsFile (unread_at Place.Plain) text.now 0 no_statements (Ok file)) }
+    ensures ok { IfOk result (λ file. ReadsFile text.now 0 no_statements (Ok file)) }
     ensures refused { IfErr result
-        (λ end. RefusesWith end (λ fault. ReadsFile (unread_at Place.Plain) text.now 0 no_statements (Err fault))) }
-    ensures methods { IfOk result (λ file. All (λ goal. IsRingOrField goal.method) file.goals) }
+        (λ end. RefusesWith end (λ fault. ReadsFile text.now 0 no_statements (Err fault))) }
 {
     let mut declared = Declared::new(alloc);
     let mut at = 0;

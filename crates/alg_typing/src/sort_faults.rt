@@ -174,9 +174,13 @@ impl Scope<'_> {
         ensures { result ≡ first_of (sort_faults self.now.declared.now self.now.text.now kind.now) }
     {
         match kind {
-            RawKind::End | RawKind::Sort { .. } | RawKind::Hom { .. } | RawKind::Vars { .. } => {
-                None
-            }
+            RawKind::End
+            | RawKind::Sort { .. }
+            | RawKind::Hom { .. }
+            | RawKind::Vars { .. }
+            | RawKind::Answer(_)
+            | RawKind::Line { .. }
+            | RawKind::Step { .. } => { None }
             RawKind::Hyp { equation, .. } => {
                 self.equation_fault(equation, self.sort_of_sides(equation), false)
             }

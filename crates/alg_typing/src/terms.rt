@@ -78,7 +78,7 @@ impl Scope<'_> {
     }
 
     /// The numbers of the morphisms of a path.
-    fn path_of(&self, alloc: Global, path: &[Span]) -> Result<Vec<u32>, NoMemory>
+    pub(crate) fn path_of(&self, alloc: Global, path: &[Span]) -> Result<Vec<u32>, NoMemory>
         requires { All (IsNameAt self.now.text.now) path.now }
         ensures { IfOk result
             (λ numbers. numbers.items ≡ map (number_at self.now.declared.now self.now.text.now) path.now) }

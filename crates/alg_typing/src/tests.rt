@@ -1,14 +1,14 @@
 //! Files and first faults of texts.
 
 mod by_field;
-mod by_hand;
+mod by_nsatz;
 mod readings;
 
 use crate::laws::one_reading;
 use crate::{Declared, FileEnd, read_file};
 use alg_terms::GREATEST_TEXT;
 use alg_tokens::Refusal;
-use std::alloc::Global;
+use std::alloc::{AllocError, Global};
 
 /// What a text is: a file of so many statements, or a fault with its code and its byte.
 #[derive(Clone, Copy, PartialEq, Eq, Debug)]
@@ -28,6 +28,13 @@ fn read(alloc: Global, bytes: &[u8]) -> Found {
         Err(FileEnd::Refused(Refusal { code, at })) => Found::Fault(code, at),
         Err(FileEnd::NoMemory) => Found::NoMemory,
     }
+}
+
+/// What declarations with a statement behind them are.
+fn read_behind(alloc: Global, declared: &str, statement: &str) -> Result<Found, AllocError> {
+    let mut text = Vec::from_slice(alloc, declared.as_bytes())?;
+    text.extend_from_slice(statement.as_bytes())?;
+    Ok(read(alloc, text.as_slice()))
 }
 
 #[test]

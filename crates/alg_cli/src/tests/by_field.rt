@@ -193,7 +193,7 @@ goal f(a)/2 + f(a)/2 = f(a) by field.
   proved.
 ";
 
-pub(super) const ROWS: [Row; 7] = [
+pub(super) const ROWS: [Row; 6] = [
     Row {
         shows: "goals by ring and by field stand side by side",
         input: SIDE_BY_SIDE,
@@ -228,12 +228,6 @@ pub(super) const ROWS: [Row; 7] = [
         shows: "neither side of a goal by field has a sort",
         input: b"field F.\ngoal 1/2 = 1/2 by field.\n",
         output: "refused 10 at 18\n",
-        status: Status::Refused,
-    },
-    Row {
-        shows: "goals by nsatz can't be read yet",
-        input: b"field F.\nvar x : F.\ngoal x = 0 by nsatz.\n",
-        output: "refused 20 at 34\n",
         status: Status::Refused,
     },
 ];

@@ -230,9 +230,9 @@ hyp _''''' : _'''^2 = 4.
 goal 1/_'''' = _'''' by field.
   proved if _'''' <> 0.
 goal _''(_''')^2 = 4 by nsatz using _''(_''''') power 1 limit 10000.
-  proved power 1 if 2 <> 0.
-  line 1, 1, 1 minus -1, 1, 1 over 2.
-  step 1 minus 1, 1, 2 over 1.
+  proved version 2 power 1 if 2 <> 0.
+  line 1, 1 minus -1, 1 over 2.
+  step 1 minus 1, 2.
 ";
 
 #[test]

@@ -2,7 +2,7 @@
 //! method.
 
 use super::Found::{Fault, File};
-use super::{Found, read};
+use super::{Found, read, read_behind};
 use std::alloc::AllocError;
 
 // What the texts begin with: sorts with a variable each, and morphisms between them.
@@ -64,9 +64,7 @@ const GOALS: [(&'static str, &'static str, Found); 20] = [
 #[test]
 fn a_goal_by_field_is_read_or_has_a_first_fault(rt: HostRuntime) -> Result<(), AllocError> {
     for (declared, goal, want) in &GOALS {
-        let mut text = Vec::from_slice(rt.alloc(), declared.as_bytes())?;
-        text.extend_from_slice(goal.as_bytes())?;
-        let found = read(rt.alloc(), text.as_slice());
+        let found = read_behind(rt.alloc(), *declared, *goal)?;
         assert!(rt; found == *want, "{goal}: {found:?} is to be {want:?}");
     }
     Ok(())

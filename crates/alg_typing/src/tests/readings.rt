@@ -21,7 +21,7 @@ const FIELD: Piece = (b"field F.\nvar x : F.\n", 1);
 const FIELDS: Piece = (b"field F.\nfield K.\nvar x : F.\nvar y : K.\n", 1);
 
 /// Each row: the pieces of a text, and what it is.
-const READINGS: [(&'static [Piece], Found); 106] = [
+const READINGS: [(&'static [Piece], Found); 93] = [
     // files
     (&[(b"", 1)], File(0)),
     (&[(b"# nothing\n", 1)], File(0)),
@@ -207,37 +207,6 @@ const READINGS: [(&'static [Piece], Found); 106] = [
     // code 13: a quotient in a goal by ring
     (&[FIELD, (b"goal x/x = 1 by ring.\n", 1)], Fault(13, 26)),
     (&[FIELD, (b"goal x = 1/2 by ring.\n", 1)], Fault(13, 30)),
-    // code 20: what is not answered yet, with options on both sides of their limits
-    (&[RING, (b"hyp H : x = 0.\n", 1)], Fault(20, 19)),
-    (&[RING, (b"goal x = 0 by nsatz.\n", 1)], Fault(20, 33)),
-    (
-        &[DOMAIN, (b"goal x = 0 by nsatz power 0.\n", 1)],
-        Fault(20, 35),
-    ),
-    (
-        &[DOMAIN, (b"goal x = 0 by nsatz power 1.\n", 1)],
-        Fault(20, 35),
-    ),
-    (
-        &[DOMAIN, (b"goal x = 0 by nsatz power 16.\n", 1)],
-        Fault(20, 35),
-    ),
-    (
-        &[DOMAIN, (b"goal x = 0 by nsatz power 17.\n", 1)],
-        Fault(20, 35),
-    ),
-    (
-        &[DOMAIN, (b"goal x = 0 by nsatz limit 1000000.\n", 1)],
-        Fault(20, 35),
-    ),
-    (
-        &[DOMAIN, (b"goal x = 0 by nsatz limit 1000001.\n", 1)],
-        Fault(20, 35),
-    ),
-    (
-        &[DOMAIN, (b"goal x = 0 by nsatz using H.\n", 1)],
-        Fault(20, 35),
-    ),
     // an earlier statement before a later one
     (&[(b"ring R. ring R. var x : Q.", 1)], Fault(6, 13)),
     (
@@ -289,29 +258,12 @@ const READINGS: [(&'static [Piece], Found); 106] = [
     ),
     (&[RINGS, (b"goal x + y = z by ring.\n", 1)], Fault(7, 51)),
     (&[RING, (b"goal x^1001 = R by ring.\n", 1)], Fault(8, 33)),
-    // a word that can't be read yet before all of its statement but what stands up to it
-    (&[RING, (b"hyp $", 1)], Fault(20, 19)),
+    (&[RING, (b"hyp $", 1)], Fault(2, 23)),
     (
         &[RING, (b"goal ", 1), (b"-", 1000), (b"x = 0 by nsatz.\n", 1)],
-        Fault(20, 1033),
+        Fault(11, 24),
     ),
-    (&[RING, (b"goal y = 0 by nsatz.\n", 1)], Fault(20, 33)),
-    (&[RING, (b"goal x^1001 = 0 by nsatz.\n", 1)], Fault(20, 38)),
-    (&[RING, (b"goal $ = 0 by nsatz.\n", 1)], Fault(2, 24)),
-    (
-        &[
-            RING,
-            (
-                b"goal 170141183460469231731687303715884105728 = x by nsatz.\n",
-                1,
-            ),
-        ],
-        Fault(3, 24),
-    ),
-    (
-        &[RING, (b"goal ", 1), (b"(", 201), (b"x by nsatz.\n", 1)],
-        Fault(19, 224),
-    ),
+    (&[RING, (b"goal y = 0 by nsatz.\n", 1)], Fault(7, 24)),
     // of one group the earlier byte
     (
         &[

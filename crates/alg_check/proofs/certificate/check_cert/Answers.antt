@@ -1,9 +1,9 @@
 use Rattle.std.proofs.Common.{◌≡◌, ◌≢◌, ◌++◌, [], List, sym, subst, arith, rules, length}
 use Rattle.alg_lines.specs.declared.cert.Line.{Line}
-use Rattle.alg_lines.specs.Accepting.{Accepting, HasPower, Begins, AreLines, bad_power}
+use Rattle.alg_lines.specs.Accepting.{Accepting, HasPower, Begins, bad_power}
 use Rattle.alg_check.specs.Checking.{FollowsLines, FollowsSteps, BreaksAtLine, acceptance_of}
 use Rattle.alg_check.specs.declared.certificate.CertAnswer.{CertAnswer}
-use Rattle.alg_check.proofs.Following.{refused, bad_at_line, bad_at_step, ends, remains}
+use Rattle.alg_check.proofs.Following.{refused, bad_at_line, bad_at_step, ends, lines_whole, remains}
 use Rattle.alg_check.proofs.certificate.check_cert.Goals as goal
 use Rattle.alg_check.proofs.certificate.check_cert.Goals.{then-cert-lt1-via-then-cert-lt1, then-cert-lt1-via-else-cert-lt1+then-cert-gt-GREATEST_POWER, then-is_zero, else-is_zero}
 
@@ -44,10 +44,8 @@ returns-in-Breach-clause-answer c =
     let begins : Begins hyps g cert = ((omega arith, omega arith), c.in_ok-first.ensures.fine) in
     let made = c.follow_lines.new.made.items in
     let followed = subst (FollowsLines hyps c.items-lines.result.now made) c.in_default.is c.in_ok-number.ensures in
-    let all : hyps ++ made ≡ hyps ++ c.deref.result.now = λ i. hyps ++ sym c.deref.ensures.value i in
-    let lines : AreLines hyps cert.lines (hyps ++ c.deref.result.now) =
-    subst (AreLines hyps cert.lines) all
-    (subst (λ (ls : List Line). AreLines hyps ls (hyps ++ made)) c.items-lines.ensures followed) in
+    let lines = lines_whole hyps g cert c.items-lines.result.now made c.deref.result.now followed c.items-lines.ensures
+    c.deref.ensures.value in
     bad_at_step hyps g cert begins (hyps ++ c.deref.result.now) lines c.in_ok-first.first c.items-steps.result.now _
     c.in_ok-first.ensures.power c.items-steps.ensures (search rules) c.in-Breach.number
     (subst (FollowsSteps (hyps ++ c.deref.result.now) c.in_ok-first.first c.items-steps.result.now _) c.in-Breach.is
@@ -63,10 +61,8 @@ returns-clause-answer c =
     let begins : Begins hyps g cert = ((omega arith, omega arith), c.in_ok-first.ensures.fine) in
     let made = c.follow_lines.new.made.items in
     let followed = subst (FollowsLines hyps c.items-lines.result.now made) c.in_default.is c.in_ok-number.ensures in
-    let all : hyps ++ made ≡ hyps ++ c.deref.result.now = λ i. hyps ++ sym c.deref.ensures.value i in
-    let lines : AreLines hyps cert.lines (hyps ++ c.deref.result.now) =
-    subst (AreLines hyps cert.lines) all
-    (subst (λ (ls : List Line). AreLines hyps ls (hyps ++ made)) c.items-lines.ensures followed) in
+    let lines = lines_whole hyps g cert c.items-lines.result.now made c.deref.result.now followed c.items-lines.ensures
+    c.deref.ensures.value in
     let n = length c.items-lines.result.now in
     let steps = subst (FollowsSteps (hyps ++ c.deref.result.now) c.in_ok-first.first c.items-steps.result.now n)
     c.in-To.is

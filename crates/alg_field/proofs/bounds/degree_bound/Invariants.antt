@@ -1,7 +1,7 @@
 use Rattle.std.proofs.Common.{◌≡◌, ◌+◌, ◌≤◌, drop}
 use Rattle.alg_mono.specs.Monomials.{MAX_DEGREE}
 use Rattle.alg_field.specs.Lists.{IsList}
-use Rattle.alg_field.specs.Rules.{degrees}
+use Rattle.alg_reify.specs.FactorMaps.{degrees}
 use Rattle.alg_field.proofs.bounds.degree_bound.Given as goal
 
 -- what is out with what is left is all

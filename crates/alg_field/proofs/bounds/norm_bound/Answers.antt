@@ -1,6 +1,6 @@
 use Rattle.std.proofs.Common.{arith, ◌≡◌, ◌+◌, ◌*◌, ◌^◌, ◌<◌, ◌∙◌, ap, subst, drop, refl}
 use Rattle.alg_mono.specs.Polynomials.{MAX, norm}
-use Rattle.alg_field.specs.Rules.{norms}
+use Rattle.alg_reify.specs.FactorMaps.{norms}
 use Rattle.alg_field.proofs.Measures.{norm_turn, product_some, power_some, each_some, each_factor}
 use Rattle.alg_field.proofs.bounds.norm_bound.Goals as goal
 

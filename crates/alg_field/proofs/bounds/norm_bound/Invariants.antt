@@ -1,7 +1,7 @@
 use Rattle.std.proofs.Common.{◌≡◌, ◌*◌, ◌<◌, ◌≤◌, drop}
 use Rattle.alg_mono.specs.FiniteMaps.{Each}
 use Rattle.alg_mono.specs.Polynomials.{MAX, norm}
-use Rattle.alg_field.specs.Rules.{norms}
+use Rattle.alg_reify.specs.FactorMaps.{norms}
 use Rattle.alg_field.proofs.bounds.norm_bound.Given as goal
 
 -- what is out times what is left is all

@@ -1,8 +1,8 @@
 use Rattle.std.proofs.Common.{sym, ◌∙◌, ◌+◌, ◌*◌}
 use Rattle.alg_mono.specs.Outcomes.{outcome}
-use Rattle.alg_field.specs.Rules.{norms, degrees}
+use Rattle.alg_reify.specs.FactorMaps.{norms, degrees}
 use Rattle.alg_field.proofs.Measures.{each_some, each_factor, over_is}
-use Rattle.alg_field.proofs.NumberTests.{norm_some}
+use Rattle.alg_reify.proofs.NormsSome.{norm_some}
 use Rattle.alg_field.proofs.bounds.over_rule.Goals as goal
 
 pub returns : goal.returns

@@ -1,5 +1,5 @@
 use Rattle.std.proofs.Common.{arith}
-use Rattle.alg_field.specs.Rules.{norms}
+use Rattle.alg_reify.specs.FactorMaps.{norms}
 use Rattle.alg_field.proofs.Measures.{each_some, each_factor, norms_some, power_more}
 use Rattle.alg_field.proofs.bounds.power_norm.Goals as goal
 

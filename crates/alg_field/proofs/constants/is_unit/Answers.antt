@@ -1,7 +1,7 @@
 use Rattle.std.specs.Prelude.{◌≡◌, false, ◌||◌, ◌∷◌, [], pos, negsuc}
 use Rattle.std.specs.Ordering.{eq_by_cmp}
 use Rattle.std.proofs.Common.{refl, sym, ap, ◌∙◌}
-use Rattle.alg_field.specs.Factors.{order}
+use Rattle.alg_reify.specs.FactorMaps.{order}
 use Rattle.alg_field.proofs.NumberTests.{number_test}
 use Rattle.alg_field.proofs.constants.is_unit.Goals as goal
 

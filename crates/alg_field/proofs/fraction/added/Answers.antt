@@ -1,6 +1,6 @@
 use Rattle.alg_mono.specs.NumberedPolynomials.{Polynomial, sum_of}
 use Rattle.alg_mono.specs.Outcomes.{sum_outcome}
-use Rattle.alg_field.proofs.Giving.{gives_after}
+use Rattle.alg_reify.proofs.Giving.{gives_after}
 use Rattle.alg_field.proofs.fraction.added.Goals as goal
 
 -- both numerators were made

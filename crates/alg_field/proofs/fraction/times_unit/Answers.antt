@@ -4,9 +4,10 @@ use Rattle.alg_mono.specs.Outcomes.{Outcome}
 use Rattle.alg_mono.specs.Polynomials.{norm}
 use Rattle.alg_horner.specs.Trees.{form_of}
 use Rattle.alg_horner.proofs.Polynomials.{within_limits}
-use Rattle.alg_field.specs.Factors.{product}
-use Rattle.alg_field.specs.Fractions.{Gives}
-use Rattle.alg_field.proofs.Units.{unit_is, unit_last}
+use Rattle.alg_reify.specs.FactorMaps.{product}
+use Rattle.alg_reify.specs.Making.{Gives}
+use Rattle.alg_reify.proofs.UnitPolynomials.{unit_is}
+use Rattle.alg_field.proofs.Units.{unit_last}
 use Rattle.alg_field.proofs.fraction.times_unit.Goals as goal
 
 -- the product with the factors was refused, and 1 or -1 changes no rule

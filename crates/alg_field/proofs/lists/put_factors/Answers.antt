@@ -1,6 +1,6 @@
 use Rattle.std.proofs.Common.{◌≡◌, ◌∙◌, ◌+◌, ◌≤◌, sym, subst, ap, arith, drop}
 use Rattle.alg_mono.specs.NumberedPolynomials.{Polynomial}
-use Rattle.alg_field.specs.Factors.{FactorMap, exponent_of}
+use Rattle.alg_reify.specs.FactorMaps.{FactorMap, exponent_of}
 use Rattle.alg_field.specs.Lists.{MAX_POWER, IsList, put, put_all}
 use Rattle.alg_field.proofs.Puts.{within_here, within_turn, put_all_turn, IsList-put}
 use Rattle.alg_field.proofs.ListMaps.{factor_at}

@@ -1,6 +1,6 @@
 use Rattle.std.proofs.Common.{◌≡◌, ◌+◌, ◌≤◌, drop}
 use Rattle.alg_mono.specs.NumberedPolynomials.{Polynomial}
-use Rattle.alg_field.specs.Factors.{exponent_of}
+use Rattle.alg_reify.specs.FactorMaps.{exponent_of}
 use Rattle.alg_field.specs.Lists.{MAX_POWER, IsList, put_all}
 use Rattle.alg_field.proofs.lists.put_factors.Given as goal
 

@@ -1,7 +1,7 @@
 use Rattle.std.proofs.Common.{◌≡◌, ◌∙◌, ◌+◌, ◌-◌, ◌++◌, [], ap, arith, refl, drop, append-nil}
 use Rattle.alg_mono.specs.FiniteMaps.{keep}
 use Rattle.alg_mono.specs.Numbers.{exponents}
-use Rattle.alg_field.specs.Factors.{order, exponent_of}
+use Rattle.alg_reify.specs.FactorMaps.{order, exponent_of}
 use Rattle.alg_field.specs.Lists.{beyond}
 use Rattle.alg_field.proofs.Beyond.{beyond_turn, keep_some, keep_none}
 use Rattle.alg_field.proofs.lists.what_is_beyond.Goals as goal

@@ -1,5 +1,5 @@
 use Rattle.std.proofs.Common.{sym, ◌∙◌}
-use Rattle.alg_field.specs.Factors.{product}
+use Rattle.alg_reify.specs.FactorMaps.{product}
 use Rattle.alg_field.proofs.Multiplied.{within_first, nothing_times}
 use Rattle.alg_field.proofs.multiply.multiplied.Goals as goal
 

@@ -1,6 +1,6 @@
 use Rattle.std.proofs.Common.{◌∙◌, ap, sym, arith}
 use Rattle.alg_mono.specs.NumberedPolynomials.{product_of}
-use Rattle.alg_field.specs.Factors.{product}
+use Rattle.alg_reify.specs.FactorMaps.{product}
 use Rattle.alg_field.proofs.Multiplied.{power_norm, power_degree, times_norm, times_degree, next_within, next_product, drop_end}
 use Rattle.alg_field.proofs.multiply.times_powers.Goals as goal
 

@@ -1,6 +1,6 @@
 use Rattle.std.proofs.Common.{◌≡◌, drop}
 use Rattle.alg_mono.specs.NumberedPolynomials.{product_of}
-use Rattle.alg_field.specs.Factors.{product}
+use Rattle.alg_reify.specs.FactorMaps.{product}
 use Rattle.alg_field.specs.Within.{IsWithin}
 use Rattle.alg_field.proofs.multiply.times_powers.Given as goal
 

@@ -1,4 +1,4 @@
-use Rattle.alg_nsatz.proofs.Made.{both_made, difference_fine, difference_told}
+use Rattle.alg_reify.proofs.MadeDifferences.{both_made, difference_fine, difference_told}
 use Rattle.alg_reify.proofs.Prepared.{left_held, right_held}
 use Rattle.alg_nsatz.proofs.preparing.difference.Goals as goal
 

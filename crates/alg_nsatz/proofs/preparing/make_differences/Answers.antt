@@ -1,5 +1,5 @@
 use Rattle.std.proofs.Common.{arith}
-use Rattle.alg_nsatz.proofs.Turns.{use_held, equation_turn, nonzero_turn, outcome_turn}
+use Rattle.alg_reify.proofs.UseTurns.{use_held, equation_turn, nonzero_turn, outcome_turn}
 use Rattle.alg_nsatz.proofs.preparing.make_differences.Goals as goal
 
 pub put_use-requires-clause-held : goal.put_use-requires-clause-held

@@ -1,4 +1,4 @@
-use Rattle.alg_nsatz.proofs.Turns.{hyp_read, held_read}
+use Rattle.alg_reify.proofs.UseTurns.{hyp_read, held_read}
 use Rattle.alg_nsatz.proofs.preparing.put_use.Goals as goal
 
 pub difference-requires-clause-equation : goal.difference-requires-clause-equation

@@ -1,7 +1,7 @@
 use Rattle.std.proofs.Common.{◌≡◌, ◌+◌, ◌≤◌, drop}
 use Rattle.alg_mono.specs.Monomials.{MAX_DEGREE}
 use Rattle.alg_mono.specs.Polynomials.{poly_degree}
-use Rattle.alg_nsatz.proofs.Factors.{degrees}
+use Rattle.alg_reify.proofs.ProductTurns.{degrees}
 use Rattle.alg_nsatz.proofs.product.degrees_fit.Given as goal
 
 -- the degree and what is left are all

@@ -1,6 +1,6 @@
 use Rattle.std.proofs.Common.{arith, ◌∙◌, refl}
 use Rattle.alg_mono.specs.Polynomials.{norm}
-use Rattle.alg_nsatz.proofs.Factors.{norms_over, norms_left, each_turn, norms_next, degrees_next}
+use Rattle.alg_reify.proofs.ProductTurns.{norms_over, norms_left, each_turn, norms_next, degrees_next}
 use Rattle.alg_nsatz.proofs.product.multiply.Goals as goal
 
 pub times-requires-clause-norms : goal.times-requires-clause-norms

@@ -3,7 +3,7 @@ use Rattle.alg_mono.specs.Monomials.{MAX_DEGREE}
 use Rattle.alg_mono.specs.Outcomes.{norm_product}
 use Rattle.alg_mono.specs.Polynomials.{MAX, norm, poly_degree}
 use Rattle.alg_reify.specs.Preparing.{times_each}
-use Rattle.alg_nsatz.proofs.Factors.{degrees}
+use Rattle.alg_reify.proofs.ProductTurns.{degrees}
 use Rattle.alg_nsatz.proofs.product.multiply.Given as goal
 
 -- what is out times what is left is all, within the limits

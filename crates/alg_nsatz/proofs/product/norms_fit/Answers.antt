@@ -1,6 +1,6 @@
 use Rattle.std.proofs.Common.{arith, ◌+◌, ◌*◌, ◌∙◌, ap, drop}
 use Rattle.alg_mono.specs.Outcomes.{norm_product}
-use Rattle.alg_nsatz.proofs.Factors.{norms_turn, norms_over, norms_left}
+use Rattle.alg_reify.proofs.ProductTurns.{norms_turn, norms_over, norms_left}
 use Rattle.alg_nsatz.proofs.product.norms_fit.Goals as goal
 
 -- the bound is too great already, and what is left makes it no smaller

@@ -1,5 +1,5 @@
 use Rattle.std.proofs.Common.{sym, ◌∙◌}
-use Rattle.alg_nsatz.proofs.Bounds.{first_nothing, some_nothing}
+use Rattle.alg_reify.proofs.ProductRules.{first_nothing, some_nothing}
 use Rattle.alg_nsatz.proofs.product.product.Goals.{then-is_zero-via-then-is_zero, then-is_zero-via-else-is_zero+then-has_zero}
 use Rattle.alg_nsatz.proofs.product.product.Goals as goal
 

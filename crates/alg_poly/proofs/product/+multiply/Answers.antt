@@ -69,24 +69,24 @@ multiply-requires-2 t c =
     )
 
 -- products fall, and their norms add up to no more than the bound on the whole
-pub merge-requires-clause-falls_a : goal.merge-requires-clause-falls_a
-merge-requires-clause-falls_a t c =
-    subst (IsCanonical before integers.amounts) (sym (c.deref.ensures.value ∙ c.in_ok-front.ensures))
+pub merge_moved-requires-clause-falls_a : goal.merge_moved-requires-clause-falls_a
+merge_moved-requires-clause-falls_a t c =
+    subst (IsCanonical before integers.amounts) (sym c.in_ok-front.ensures)
     (IsCanonical-product c.split_at.result.0.now c.args.b.now)
 
-pub merge-requires-clause-falls_b : goal.merge-requires-clause-falls_b
-merge-requires-clause-falls_b t c =
-    subst (IsCanonical before integers.amounts) (sym (c.deref-2.ensures.value ∙ c.in_ok-back.ensures))
+pub merge_moved-requires-clause-falls_b : goal.merge_moved-requires-clause-falls_b
+merge_moved-requires-clause-falls_b t c =
+    subst (IsCanonical before integers.amounts) (sym c.in_ok-back.ensures)
     (IsCanonical-product c.split_at.result.1.now c.args.b.now)
 
-pub merge-requires-clause-fits : goal.merge-requires-clause-fits
-merge-requires-clause-fits t c =
+pub merge_moved-requires-clause-fits : goal.merge_moved-requires-clause-fits
+merge_moved-requires-clause-fits t c =
     let a = c.args.a.now in
     let b = c.args.b.now in
     let i = length a / 2 in
     let times_b = λ (p : Polynomial). product_of p b in
-    let front = c.deref.ensures.value ∙ c.in_ok-front.ensures ∙ ap times_b c.split_at.ensures.front in
-    let back = c.deref-2.ensures.value ∙ c.in_ok-back.ensures ∙ ap times_b c.split_at.ensures.back in
+    let front = c.in_ok-front.ensures ∙ ap times_b c.split_at.ensures.front in
+    let back = c.in_ok-back.ensures ∙ ap times_b c.split_at.ensures.back in
     let norm_of = λ (p : Polynomial). norm p in
     omega (
       arith,
@@ -102,7 +102,7 @@ returns t c =
     let b = c.args.b.now in
     let i = length a / 2 in
     let times_b = λ (p : Polynomial). product_of p b in
-    let front = c.deref.ensures.value ∙ c.in_ok-front.ensures ∙ ap times_b c.split_at.ensures.front in
-    let back = c.deref-2.ensures.value ∙ c.in_ok-back.ensures ∙ ap times_b c.split_at.ensures.back in
-    subst (λ (w : Polynomial). IfOk c.merge.result (λ v. v.items ≡ w))
-    ((λ k. sum_of (front k) (back k)) ∙ product_parts i a b) c.merge.ensures
+    let front = c.in_ok-front.ensures ∙ ap times_b c.split_at.ensures.front in
+    let back = c.in_ok-back.ensures ∙ ap times_b c.split_at.ensures.back in
+    subst (λ (w : Polynomial). IfOk c.merge_moved.result (λ v. v.items ≡ w))
+    ((λ k. sum_of (front k) (back k)) ∙ product_parts i a b) c.merge_moved.ensures

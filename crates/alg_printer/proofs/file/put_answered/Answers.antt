@@ -1,7 +1,7 @@
 use Rattle.std.proofs.Common.{get_or, ap, sym, subst, ◌∙◌}
 use Rattle.std.proofs.lemmas.List.{get_or_default}
 use Rattle.alg_terms.specs.Members.{no_goal}
-use Rattle.alg_printer.specs.Monomials.{goal_atoms}
+use Rattle.alg_reify.specs.Table.{goal_atoms}
 use Rattle.alg_printer.proofs.Leaves.{AreAtoms}
 use Rattle.alg_printer.proofs.Tables.{goal_has}
 use Rattle.alg_printer.proofs.file.put_answered.Goals as goal

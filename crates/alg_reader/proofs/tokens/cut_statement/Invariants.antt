@@ -1,15 +1,14 @@
-use Rattle.std.proofs.Common.{◌≡◌, ◌≤◌, ◌-◌, length, None}
+use Rattle.std.proofs.Common.{◌≡◌, ◌≤◌, ◌-◌, length}
 use Rattle.std.specs.Str.{IsCharBoundary}
 use Rattle.alg_terms.specs.Limits.{MAX_OPEN}
-use Rattle.alg_reader.specs.Tokens.{open_after, last_kind, Reaches, unread_at}
+use Rattle.alg_reader.specs.Tokens.{open_after, Reaches}
 use Rattle.alg_reader.proofs.tokens.cut_statement.Given as goal
 
 abbrev pub invariant-tokens : goal.invariant-tokens
 invariant-tokens l = record {
-  reaches : Reaches (unread_at l.fn.place) l.text l.fn.at l.tokens.items l.stop;
+  reaches : Reaches l.text l.fn.at l.tokens.items l.stop;
   opened : l.depth ≡ open_after 0 l.tokens.items;
   few : l.depth ≤ MAX_OPEN;
-  before : l.last ≡ last_kind None l.tokens.items;
   boundary : IsCharBoundary l.text l.stop;
 }
 

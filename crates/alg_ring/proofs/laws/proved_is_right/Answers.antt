@@ -1,5 +1,5 @@
-use Rattle.alg_ring.proofs.Right.{proved_is_right}
+use Rattle.alg_reify.proofs.Right.{ring_is_right}
 use Rattle.alg_ring.proofs.laws.proved_is_right.Goals as goal
 
 pub returns : goal.returns
-returns g c = proved_is_right g.U.Universe
+returns g c = ring_is_right g.U.Universe

@@ -1,6 +1,8 @@
 use Rattle.std.proofs.Common.{◌<◌, ◌≤◌, List, ℕ, length, sym, subst, inr, ap, Err}
 use Rattle.std.specs.Str.{IsUtf8, IsValidUpTo}
 use Rattle.alg_terms.specs.Limits.{MAX_TEXT}
+use Rattle.alg_terms.specs.Valid.{IsValid}
+use Rattle.alg_typing.specs.Reading.{file_way, no_statements}
 use Rattle.alg_typing.proofs.ReadingSteps.{small_place, read_all, told_all}
 use Rattle.alg_typing.proofs.reading.read_file.Goals as goal
 
@@ -13,16 +15,14 @@ read_text-requires c = subst (λ (t : List ℕ). length t ≤ MAX_TEXT) (sym c.i
 
 pub returns-in-Ok-clause-ok : goal.returns-in-Ok-clause-ok
 returns-in-Ok-clause-ok c =
-    read_all c.args.bytes.now c.in-Ok.text.now c.in-Ok.ensures.cases.0 c.in-Ok.ensures.cases.1 c.read_text.result
-    c.read_text.ensures.ok
+    read_all file_way no_statements c.args.bytes.now c.in-Ok.text.now c.in-Ok.ensures.cases.0 c.in-Ok.ensures.cases.1
+    IsValid c.read_text.result c.read_text.ensures.ok
 
 pub returns-in-Ok-clause-refused : goal.returns-in-Ok-clause-refused
 returns-in-Ok-clause-refused c =
-    told_all c.args.bytes.now c.in-Ok.text.now c.in-Ok.ensures.cases.0 c.in-Ok.ensures.cases.1 c.read_text.result
+    told_all file_way no_statements c.args.bytes.now c.in-Ok.text.now c.in-Ok.ensures.cases.0
+    c.in-Ok.ensures.cases.1 c.read_text.result
     c.read_text.ensures.refused
-
-pub returns-in-Ok-clause-methods : goal.returns-in-Ok-clause-methods
-returns-in-Ok-clause-methods c = c.read_text.ensures.methods
 
 -- they are none
 pub overflow_cast-end : goal.overflow_cast-end

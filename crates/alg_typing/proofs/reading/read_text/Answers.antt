@@ -1,9 +1,8 @@
-use Rattle.std.proofs.Common.{sym, subst, All, Ok}
+use Rattle.std.proofs.Common.{sym, subst, Ok}
 use Rattle.alg_terms.specs.declared.file.File.{File}
-use Rattle.alg_reader.specs.Tokens.{unread_today}
 use Rattle.alg_typing.specs.Reading.{ReadsFile, no_statements}
 use Rattle.alg_typing.proofs.FirstFaults.{error_tells_nothing}
-use Rattle.alg_typing.proofs.ReadingSteps.{IsBySides, passed_on}
+use Rattle.alg_typing.proofs.ReadingSteps.{passed_on}
 use Rattle.alg_typing.proofs.reading.read_text.Goals as goal
 
 pub read_declared-requires : goal.read_declared-requires
@@ -16,16 +15,9 @@ pub returns-in_err-read_declared-clause-refused : goal.returns-in_err-read_decla
 returns-in_err-read_declared-clause-refused c =
     passed_on _ c.from_residual.result _ c.from_residual.ensures.1 c.in_err-read_declared.ensures.refused
 
-pub returns-in_err-read_declared-clause-methods : goal.returns-in_err-read_declared-clause-methods
-returns-in_err-read_declared-clause-methods c = error_tells_nothing _ _ c.from_residual.result c.from_residual.ensures.1
-
 pub returns-clause-ok : goal.returns-clause-ok
 returns-clause-ok c = (
-  subst (λ (f : File). ReadsFile unread_today c.args.text.now 0 no_statements (Ok f)) (sym c.into_file.ensures.file)
+  subst (λ (f : File). ReadsFile c.args.text.now 0 no_statements (Ok f)) (sym c.into_file.ensures.file)
       c.in_ok-read_declared.ensures.ok,
   c.into_file.ensures.valid,
 )
-
-pub returns-clause-methods : goal.returns-clause-methods
-returns-clause-methods c =
-    subst (λ (f : File). All IsBySides f.goals) (sym c.into_file.ensures.file) c.in_ok-read_declared.ensures.methods

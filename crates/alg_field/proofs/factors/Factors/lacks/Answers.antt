@@ -1,6 +1,6 @@
 use Rattle.std.proofs.Common.{◌∙◌, sym, ap, subst}
-use Rattle.alg_field.specs.Factors.{lacks}
-use Rattle.alg_field.specs.Lists.{map_of, beyond, IsList}
+use Rattle.alg_reify.specs.FactorMaps.{lacks, map_of}
+use Rattle.alg_field.specs.Lists.{beyond, IsList}
 use Rattle.alg_field.proofs.Beyond.{map-beyond, IsList-beyond}
 use Rattle.alg_field.proofs.factors.Factors.lacks.Goals as goal
 

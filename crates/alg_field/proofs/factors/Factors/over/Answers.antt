@@ -1,8 +1,8 @@
 use Rattle.std.proofs.Common.{◌≡◌, ◌∙◌, sym, ap, subst, IfOk}
 use Rattle.alg_mono.specs.NumberedPolynomials.{Polynomial, product_of}
 use Rattle.alg_meaning.specs.FractionRules.{over_outcome}
-use Rattle.alg_field.specs.Factors.{FactorMap, product}
-use Rattle.alg_field.proofs.MapRules.{over-map_of, product-map_of}
+use Rattle.alg_reify.specs.FactorMaps.{FactorMap, product}
+use Rattle.alg_reify.proofs.FactorLists.{over-map_of, product-map_of}
 use Rattle.alg_field.proofs.factors.Factors.over.Goals as goal
 
 pub multiplied-requires-clause-fine : goal.multiplied-requires-clause-fine

@@ -1,7 +1,7 @@
 use Rattle.std.proofs.Common.{◌∙◌, sym, subst, ap}
 use Rattle.alg_meaning.specs.FractionRules.{below_outcome}
-use Rattle.alg_field.specs.Factors.{power_map}
-use Rattle.alg_field.specs.Lists.{map_of, IsList}
+use Rattle.alg_reify.specs.FactorMaps.{power_map, map_of}
+use Rattle.alg_field.specs.Lists.{IsList}
 use Rattle.alg_field.proofs.MapRules.{power_within}
 use Rattle.alg_field.proofs.Scaling.{map-scaled, IsList-scaled}
 use Rattle.alg_field.proofs.factors.Factors.raised.Goals as goal

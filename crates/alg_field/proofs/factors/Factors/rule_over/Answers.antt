@@ -1,7 +1,7 @@
 use Rattle.std.proofs.Common.{◌∙◌, sym, ap}
 use Rattle.alg_meaning.specs.FractionRules.{over_outcome}
-use Rattle.alg_field.specs.Factors.{FactorMap}
-use Rattle.alg_field.proofs.MapRules.{over-map_of}
+use Rattle.alg_reify.specs.FactorMaps.{FactorMap}
+use Rattle.alg_reify.proofs.FactorLists.{over-map_of}
 use Rattle.alg_field.proofs.factors.Factors.rule_over.Goals as goal
 
 -- the list breaks the rule that its map breaks

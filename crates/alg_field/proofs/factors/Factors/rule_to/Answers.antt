@@ -1,8 +1,7 @@
 use Rattle.std.proofs.Common.{◌∙◌, ◌*◌, ◌^◌, sym}
 use Rattle.alg_mono.specs.Outcomes.{outcome}
 use Rattle.alg_meaning.specs.FractionRules.{below_outcome}
-use Rattle.alg_field.specs.Factors.{power_map}
-use Rattle.alg_field.specs.Rules.{norms, degrees}
+use Rattle.alg_reify.specs.FactorMaps.{power_map, norms, degrees}
 use Rattle.alg_field.proofs.MapRules.{below-power}
 use Rattle.alg_field.proofs.factors.Factors.rule_to.Goals as goal
 

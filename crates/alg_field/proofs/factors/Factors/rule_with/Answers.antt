@@ -5,9 +5,8 @@ use Rattle.alg_mono.proofs.Canonical.{IsCanonical-collect}
 use Rattle.alg_mono.proofs.Numbers.{exponent_laws}
 use Rattle.alg_mono.specs.Outcomes.{outcome}
 use Rattle.alg_meaning.specs.FractionRules.{below_outcome}
-use Rattle.alg_field.specs.Factors.{order, times_map}
-use Rattle.alg_field.specs.Rules.{norms, degrees}
-use Rattle.alg_field.proofs.Order.{order_total, order_anti}
+use Rattle.alg_reify.specs.FactorMaps.{order, times_map, norms, degrees}
+use Rattle.alg_reify.proofs.FactorOrder.{order_total, order_anti}
 use Rattle.alg_field.proofs.MapRules.{below-times}
 use Rattle.alg_field.proofs.factors.Factors.rule_with.Goals as goal
 

@@ -1,7 +1,7 @@
 use Rattle.std.proofs.Common.{◌≡◌, ◌∙◌, ◌+◌, ◌≤◌, sym, subst, ap}
 use Rattle.alg_meaning.specs.FractionRules.{below_outcome}
-use Rattle.alg_field.specs.Factors.{FactorMap, exponent_of, times_map}
-use Rattle.alg_field.specs.Lists.{map_of, IsList, MAX_POWER, put_all}
+use Rattle.alg_reify.specs.FactorMaps.{FactorMap, exponent_of, times_map, map_of}
+use Rattle.alg_field.specs.Lists.{IsList, MAX_POWER, put_all}
 use Rattle.alg_field.proofs.MapRules.{times_within}
 use Rattle.alg_field.proofs.Puts.{map-put_all, IsList-put_all}
 use Rattle.alg_field.proofs.factors.Factors.times.Goals as goal

@@ -1,9 +1,9 @@
 use Rattle.alg_mono.specs.NumberedPolynomials.{difference_of, product_of}
 use Rattle.alg_mono.specs.Outcomes.{first_breach, sum_outcome}
 use Rattle.alg_meaning.specs.FractionRules.{worse, over_outcome, below_outcome}
-use Rattle.alg_field.specs.Factors.{FactorMap, times_map, product}
+use Rattle.alg_reify.specs.FactorMaps.{FactorMap, times_map, product}
 use Rattle.alg_field.specs.Fractions.{MakesFraction}
-use Rattle.alg_field.proofs.Giving.{subst_both}
+use Rattle.alg_reify.proofs.Giving.{subst_both}
 use Rattle.alg_field.proofs.fraction.Fraction.difference.Goals as goal
 
 -- what was made with the factors that each lacks, over the common ones

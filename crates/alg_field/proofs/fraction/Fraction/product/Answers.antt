@@ -1,7 +1,7 @@
 use Rattle.std.proofs.Common.{[], ◌∷◌}
 use Rattle.alg_mono.specs.NumberedPolynomials.{Polynomial, product_of}
 use Rattle.alg_mono.specs.Outcomes.{product_outcome}
-use Rattle.alg_field.proofs.Giving.{gives}
+use Rattle.alg_reify.proofs.Giving.{gives}
 use Rattle.alg_field.proofs.fraction.Fraction.product.Goals as goal
 
 pub returns : goal.returns

@@ -5,9 +5,9 @@ use Rattle.alg_mono.specs.NumberedPolynomials.{Polynomial, product_of}
 use Rattle.alg_mono.specs.Outcomes.{product_outcome}
 use Rattle.alg_meaning.specs.FractionRules.{worse, all_factors, below_outcome}
 use Rattle.alg_meaning.specs.FractionsOver.{is_unit, frac_quotient}
-use Rattle.alg_field.specs.Factors.{FactorMap, times_map, product}
+use Rattle.alg_reify.specs.FactorMaps.{FactorMap, times_map, product}
 use Rattle.alg_field.specs.Fractions.{fraction_of, MakesFraction}
-use Rattle.alg_field.proofs.Giving.{subst_both}
+use Rattle.alg_reify.proofs.Giving.{subst_both}
 use Rattle.alg_field.proofs.MapRules.{times_none}
 use Rattle.alg_field.proofs.Units.{factor_is}
 use Rattle.alg_field.proofs.fraction.Fraction.quotient.Goals as goal
