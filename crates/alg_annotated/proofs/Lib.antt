@@ -1,0 +1,10 @@
+pub mod Factors
+pub mod AtomNames
+pub mod Lasts
+pub mod Sizes
+pub mod AnswersKept
+pub mod Clear
+pub mod Statements
+pub mod Progressing
+pub mod Ends
+pub mod TextSteps

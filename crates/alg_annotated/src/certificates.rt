@@ -1,0 +1,114 @@
+//! Certificates with one more line or step.
+
+ghost use Rattle.std.specs.Prelude.{◌≡◌, ◌<◌, [], length, unwrap_or, IfOk, Some};
+ghost use Rattle.alg_reader.specs.WellRead.{IsWellKind};
+ghost use Rattle.alg_reify.specs.Table.{goal_atoms};
+ghost use Rattle.alg_annotated.specs.Parts.{IsLineOrStep};
+ghost use Rattle.alg_annotated.specs.Resolved.{with_line, with_step, with_part};
+ghost use Rattle.alg_annotated.specs.Rules.{last_goal, statement_faults};
+
+use crate::answers::count_of;
+use crate::scope::Scope;
+use alg_lines::{Answer, Cert, GoalStep, Line};
+use alg_reader::RawKind;
+use alg_reify::Atoms;
+use alg_terms::NoMemory;
+use std::alloc::Global;
+
+/// An answer whose certificate has one more line.
+fn with_line(answer: Answer, line: Line) -> Result<Answer, NoMemory>
+    ensures { IfOk result (λ a. Some a ≡ with_line line (Some answer)) }
+{
+    match answer {
+        Answer::Certified { constants, cert } => {
+            let Cert {
+                power,
+                mut lines,
+                steps,
+            } = cert;
+            lines.push(line)?;
+            let cert = Cert {
+                power,
+                lines,
+                steps,
+            };
+            Ok(Answer::Certified { constants, cert })
+        }
+        other => Ok(other),
+    }
+}
+
+/// An answer whose certificate has one more step.
+fn with_step(answer: Answer, step: GoalStep) -> Result<Answer, NoMemory>
+    ensures { IfOk result (λ a. Some a ≡ with_step step (Some answer)) }
+{
+    match answer {
+        Answer::Certified { constants, cert } => {
+            let Cert {
+                power,
+                lines,
+                mut steps,
+            } = cert;
+            steps.push(step)?;
+            let cert = Cert {
+                power,
+                lines,
+                steps,
+            };
+            Ok(Answer::Certified { constants, cert })
+        }
+        other => Ok(other),
+    }
+}
+
+impl Scope<'_> {
+    /// An answer to the last goal whose certificate has one more line or step, which has no faults.
+    pub(crate) fn with_part(
+        &self,
+        alloc: Global,
+        atoms: &Option<Atoms>,
+        answer: Answer,
+        kind: &RawKind,
+    ) -> Result<Answer, NoMemory>
+        requires well_read { IsWellKind self.now.text.now kind.now }
+        requires part { IsLineOrStep kind.now }
+        requires atoms { unwrap_or atoms.now [] ≡ goal_atoms self.now.declared.now (last_goal self.now.declared.now) }
+        requires faultless { statement_faults self.now.declared.now self.now.text.now 0 kind.now ≡ [] }
+        ensures { IfOk result (λ a. Some a
+            ≡ with_part self.now.declared.now self.now.text.now (unwrap_or atoms.now []) kind.now (Some answer)) }
+    {
+        match kind {
+            RawKind::Line {
+                a,
+                m,
+                i,
+                b,
+                n,
+                j,
+                d,
+            } => {
+                let line = Line {
+                    a: a.value,
+                    m: self.monomial_of(alloc, atoms, m)?,
+                    i: count_of(i),
+                    b: b.value,
+                    n: self.monomial_of(alloc, atoms, n)?,
+                    j: count_of(j),
+                    d: d.value,
+                };
+                with_line(answer, line)
+            }
+            RawKind::Step { a, b, n, j, d } => {
+                let step = GoalStep {
+                    a: a.value,
+                    b: b.value,
+                    n: self.monomial_of(alloc, atoms, n)?,
+                    j: count_of(j),
+                    d: d.value,
+                };
+                with_step(answer, step)
+            }
+            _ => unreachable!(),
+        }
+    }
+}
