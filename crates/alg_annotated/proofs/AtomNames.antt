@@ -27,3 +27,9 @@ module _ (file : File) (text : List ℕ) (var : Span) where
   atom_apart (hom ∷ []) = refl
   atom_apart (hom ∷ next ∷ homs) =
       ap (λ (inner : Atom). record inner { path = number_at file text hom ∷ inner.path }) (atom_apart (next ∷ homs))
+
+  -- and so is the one of these numbers
+  pub atom_from : (homs : List Span) (path : List ℕ) (number : ℕ) → path ≡ map (number_at file text) homs →
+      number ≡ number_at file text var → atom_of file text (homs ++ var ∷ []) ≡ record { path = path; var = number }
+  atom_from homs path number p n =
+      atom_apart homs ∙ (λ i. record { path = sym p i; var = sym n i })

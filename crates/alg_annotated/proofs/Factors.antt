@@ -1,7 +1,10 @@
 -- The names and exponents of a factor, and those of the factors of a monomial.
-use Rattle.std.proofs.Common.{◌≡◌, ◌≢◌, ◌<◌, ◌+◌, ℕ, List, [], ◌∷◌, ◌++◌, flat_map, map, take, length, get_or, Option, Some, None, refl, ap, sym, ◌∙◌, subst, append_assoc}
+use Rattle.std.proofs.Common.{◌≡◌, ◌≢◌, ◌<◌, ◌≤◌, ◌+◌, ◌-◌, ℕ, true, List, [], ◌∷◌, ◌++◌, flat_map, map, take, length, get_or, Option, Some, None, refl, ap, sym, ◌∙◌, subst, append_assoc, arith}
+use Rattle.std.proofs.lemmas.Bool.{lt-ltb}
 use Rattle.std.proofs.lemmas.List.{take_more, flat_map_more}
-use Rattle.std.specs.Prelude.{All}
+use Rattle.std.proofs.lemmas.List.Sums.{sum_by_more, sum_by_more_le}
+use Rattle.std.specs.Prelude.{All, nat_lt, sum_by}
+use Rattle.alg_mono.specs.Monomials.{MAX_DEGREE}
 use Rattle.alg_reader.specs.declared.raw.RawFactor.{RawFactor, out-RawFactor, roll-out-RawFactor}
 use Rattle.alg_reader.specs.declared.raw.RawMono.{RawMono, out-RawMono, roll-out-RawMono}
 use Rattle.alg_reader.specs.declared.raw.RawNumber.{RawNumber}
@@ -10,7 +13,7 @@ use Rattle.alg_reader.specs.RawMonos.{factor_of, mono_of, fold_mono, fold_factor
 use Rattle.alg_reader.proofs.Monos.{fold_plain, fold_image, fold_all}
 use Rattle.alg_reader.specs.WellRead.{IsNameAt, IsWellMono}
 use Rattle.alg_typing.proofs.Ordering.{all_flat}
-use Rattle.alg_annotated.specs.Monomials.{HasNames, factors_of}
+use Rattle.alg_annotated.specs.Monomials.{HasNames, exponent_of, factors_of}
 
 joined_map : {X Y : Type 0} (g : X → List Y) (xs : List X) → flat_map (λ ys. ys) (map g xs) ≡ flat_map g xs
 joined_map g [] = refl
@@ -65,3 +68,15 @@ one_more_factor old name fs i d h =
     append_assoc old (name ∷ flat_map names_in_factor (take i fs)) (names_in_factor (get_or fs i d))
     ∙ ap (λ ys. old ++ name ∷ ys) (flat_map_more names_in_factor [] (take i fs) (get_or fs i d)
     ∙ ap (flat_map names_in_factor) (sym (take_more fs i d h)))
+
+-- the exponents so far, and what is left of the greatest degree
+module _ (fs : List RawFactor) (i : ℕ) (d : RawFactor) (within : i < length fs) (left e : ℕ)
+    (so_far : left + sum_by exponent_of (take i fs) ≡ MAX_DEGREE) (is : e ≡ exponent_of (get_or fs i d)) where
+  -- if the next exponent is greater than what is left, the exponents are over the greatest degree
+  pub over_with : left < e → true ≡ nat_lt MAX_DEGREE (sum_by exponent_of fs)
+  over_with more =
+      sym (lt-ltb MAX_DEGREE (sum_by exponent_of fs) (omega (arith, sum_by_more_le exponent_of fs i d within, so_far, is, more)))
+
+  -- and else less is left
+  pub left_with : e ≤ left → (left - e) + sum_by exponent_of (take (i + 1) fs) ≡ MAX_DEGREE
+  left_with fits = omega (arith, sum_by_more exponent_of fs i d within, so_far, is, fits)

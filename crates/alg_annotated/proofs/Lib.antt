@@ -4,6 +4,8 @@ pub mod Lasts
 pub mod Sizes
 pub mod AnswersKept
 pub mod Clear
+pub mod ClearMonomials
+pub mod FirstFaults
 pub mod Statements
 pub mod Progressing
 pub mod Ends

@@ -133,6 +133,7 @@ impl Scope<'_> {
     }
 
     /// The first fault of a monomial, by the atoms of the goal's table.
+    #[tactic(auto, using(alg_typing::proofs::Firsts::firsts))]
     pub(crate) fn mono_fault(
         &self,
         alloc: Global,

@@ -50,6 +50,7 @@ impl Scope<'_> {
     }
 
     /// The first fault of the names of an answer, a line or a step.
+    #[tactic(auto, using(alg_typing::proofs::Firsts::firsts))]
     pub(crate) fn part_names(
         &self,
         alloc: Global,

@@ -84,6 +84,7 @@ impl Scope<'_> {
     }
 
     /// The first fault of the parts of an answer to the last goal.
+    #[tactic(auto, using(alg_typing::proofs::Firsts::firsts))]
     fn parts_fault(
         &self,
         alloc: Global,
@@ -114,6 +115,7 @@ impl Scope<'_> {
     }
 
     /// The first fault of an answer to the last goal, once its names are resolved.
+    #[tactic(auto, using(alg_typing::proofs::Firsts::firsts))]
     fn answer_fault(
         &self,
         alloc: Global,
@@ -134,6 +136,7 @@ impl Scope<'_> {
     }
 
     /// The first fault of an answer, a line or a step that begins at a byte, once its names are resolved.
+    #[tactic(auto, using(alg_typing::proofs::Firsts::firsts))]
     fn resolved_fault(
         &self,
         alloc: Global,
