@@ -1,5 +1,5 @@
 -- Monomials and counts of answers without faults: each factor has none, and the numbers are within their limits.
-use Rattle.std.proofs.Common.{◌≡◌, ◌≢◌, ◌<◌, ◌≤◌, ◌+◌, ℕ, zero, suc, Bool, true, false, not, cond, List, [], ◌∷◌, ◌++◌, length, map, flat_map, get_or, Option, None, Some, refl, ap, ◌∙◌, subst, arith}
+use Rattle.std.proofs.Common.{◌≡◌, ◌≢◌, ◌<◌, ◌≤◌, ◌+◌, ℕ, zero, suc, Bool, true, false, not, cond, List, [], ◌∷◌, ◌++◌, length, map, flat_map, get_or, Option, None, Some, refl, ap, sym, ◌∙◌, subst, arith}
 use Rattle.std.specs.Prelude.{All, is_some, nat_lt, position, sum_by}
 use Rattle.std.specs.Int.RustNames.{unsigned_abs}
 use Rattle.std.specs.List.{position_or_len}
@@ -75,6 +75,11 @@ module _ (file : File) (text : List ℕ) (atoms : List Atom) where
   pub number_found : (a : Atom) (k : ℕ) → Some k ≡ position (atom_eq a) atoms → k ≡ number_of atoms a
   number_found a k h =
       place_found (nat_lt (position_or_len (atom_eq a) atoms) (length atoms)) (position_or_len (atom_eq a) atoms) k h
+
+  -- a factor as its number with its exponent
+  pub pair_from : (f : RawFactor) (n e : ℕ) → n ≡ number_of atoms (factor_atom file text f) → e ≡ exponent_of f →
+      factor_pair file text atoms f ≡ (n, e)
+  pair_from f n e number exponent = λ i. (sym number i, sym exponent i)
 
   -- the degree of the pairs is that of the factors
   pub pairs_degree : (fs : List RawFactor) → degree (map (factor_pair file text atoms) fs) ≡ sum_by exponent_of fs

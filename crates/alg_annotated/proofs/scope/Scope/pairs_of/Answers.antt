@@ -1,11 +1,11 @@
-use Rattle.std.proofs.Common.{[], ◌∷◌, ◌++◌, ◌∙◌, ap, sym, subst, map, take, arith}
+use Rattle.std.proofs.Common.{[], ◌∷◌, ◌++◌, ◌∙◌, ap, sym, subst, map, take, get_or, arith}
 use Rattle.std.specs.Prelude.{unwrap_or}
 use Rattle.std.proofs.lemmas.List.{map_more}
 use Rattle.std.proofs.lemmas.List.Elements.{All-get_or}
 use Rattle.std.proofs.lemmas.List.Sums.{sum_by_more_le}
 use Rattle.alg_reify.specs.Numbered.{number_of}
 use Rattle.alg_annotated.specs.Monomials.{HasNames, exponent_of, factor_atom, factor_fault, factor_pair}
-use Rattle.alg_annotated.proofs.ClearMonomials.{none_of_each}
+use Rattle.alg_annotated.proofs.ClearMonomials.{none_of_each, pair_from}
 use Rattle.alg_annotated.proofs.scope.Scope.pairs_of.Goals as goal
 
 pub factor_number-requires : goal.factor_number-requires
@@ -17,8 +17,8 @@ factor_number-requires c =
     let i = c.loop-factor.factor-index in
     record {
       names = subst (HasNames text) (sym c.factor-item.is)
-          (All-get_or (HasNames text) factors i _ c.loop-factor-test.true c.requires.names);
-      there = ap fault c.factor-item.is ∙ none_of_each fault factors i _ c.loop-factor-test.true c.requires.there;
+          (All-get_or (HasNames text) factors i c.factor-item.result c.loop-factor-test.true c.requires.names);
+      there = ap fault c.factor-item.is ∙ none_of_each fault factors i c.factor-item.result c.loop-factor-test.true c.requires.there;
     }
 
 -- an exponent is within the greatest degree
@@ -40,6 +40,7 @@ loop-factor-preserved c =
     let number = c.in_ok-number.ensures ∙ ap (λ f. number_of atoms (factor_atom file text f)) c.factor-item.is in
     let exponent = c.exponent_of.ensures ∙ ap exponent_of c.factor-item.is in
     c.in_ok-push.ensures.items
-    ∙ ap (λ ps. ps ++ (c.in_ok-number.number, c.exponent_of.result) ∷ []) c.loop-factor.invariant
-    ∙ (λ j. map pair (take i factors) ++ (number j, exponent j) ∷ [])
-    ∙ sym (map_more pair factors i _ c.loop-factor-test.true)
+    ∙ ap (λ ps. ps ++ _ ∷ []) c.loop-factor.invariant
+    ∙ ap (λ p. map pair (take i factors) ++ p ∷ [])
+    (sym (pair_from file text atoms (get_or factors i c.factor-item.result) _ _ number exponent))
+    ∙ sym (map_more pair factors i c.factor-item.result c.loop-factor-test.true)

@@ -17,10 +17,10 @@ term_of-requires c =
     let first = first_fault_of_term file text (last_goal file) in
     record {
       well_read = subst (IsWellTerm text) (sym c.raw-item.is)
-          (All-get_or (IsWellTerm text) raws i _ c.loop-raw-test.true c.requires.well_read);
+          (All-get_or (IsWellTerm text) raws i c.raw-item.result c.loop-raw-test.true c.requires.well_read);
       there = c.requires.there;
       faultless = ap first c.raw-item.is
-          ∙ All-get_or (λ (t : RawTerm). first t ≡ None) raws i _ c.loop-raw-test.true c.requires.faultless;
+          ∙ All-get_or (λ (t : RawTerm). first t ≡ None) raws i c.raw-item.result c.loop-raw-test.true c.requires.faultless;
     }
 
 pub loop-raw-preserved : goal.loop-raw-preserved
@@ -31,4 +31,4 @@ loop-raw-preserved c =
     c.in_ok-push.ensures.items
     ∙ ap (λ ts. ts ++ _ ∷ []) c.loop-raw.invariant
     ∙ ap (λ t. map term (take i raws) ++ t ∷ []) (c.in_ok-term_of.ensures ∙ ap term c.raw-item.is)
-    ∙ sym (map_more term raws i _ c.loop-raw-test.true)
+    ∙ sym (map_more term raws i c.raw-item.result c.loop-raw-test.true)
