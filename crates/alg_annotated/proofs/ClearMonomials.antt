@@ -5,6 +5,7 @@ use Rattle.std.specs.Int.RustNames.{unsigned_abs}
 use Rattle.std.specs.List.{position_or_len}
 use Rattle.std.proofs.lemmas.Bool.{ltb-false}
 use Rattle.std.proofs.lemmas.List.Elements.{All-head}
+use Rattle.std.proofs.lemmas.List.Sums.{sum_by-cons}
 use Rattle.alg_mono.specs.Monomials.{MAX_DEGREE, degree}
 use Rattle.alg_terms.specs.declared.file.File.{File}
 use Rattle.alg_terms.specs.declared.term.Atom.{Atom}
@@ -84,7 +85,10 @@ module _ (file : File) (text : List ℕ) (atoms : List Atom) where
   -- the degree of the pairs is that of the factors
   pub pairs_degree : (fs : List RawFactor) → degree (map (factor_pair file text atoms) fs) ≡ sum_by exponent_of fs
   pairs_degree [] = refl
-  pairs_degree (f ∷ fs) = ap (λ n. exponent_of f + n) (pairs_degree fs)
+  pairs_degree (f ∷ fs) =
+      sum_by-cons (λ (e : ℕ × ℕ). e.1) (factor_pair file text atoms f) (map (factor_pair file text atoms) fs)
+      ∙ ap (λ n. exponent_of f + n) (pairs_degree fs)
+      ∙ sym (sum_by-cons exponent_of f fs)
 
   module _ (m : RawMono) (none : mono_faults file text atoms m ≡ []) where
     parts : (fault_if (nat_lt MAX_DEGREE (written_degree m)) code.Line (out-RawMono m).start ≡ [])

@@ -9,11 +9,11 @@ use Rattle.alg_annotated.proofs.atoms.+add_names.Goals as goal
 pub returns-in-None : goal.returns-in-None
 returns-in-None t c =
     c.in_ok-push.ensures.items
-    ∙ ap (λ ns. c.args.names.old.items ++ ns) (sym (names_alone c.args.factor.now c.in-None.is))
+    ∙ ap (λ ns. c.args.names.now.items ++ ns) (sym (names_alone c.args.factor.now c.in-None.is))
 
 pub loop-inner-preserved : goal.loop-inner-preserved
 loop-inner-preserved t c =
-    let old = c.args.names.old.items in
+    let old = c.args.names.now.items in
     let name = (out-RawFactor c.args.factor.now).name in
     let factors = c.as_slice.result.now in
     let i = c.loop-inner.inner-index in
@@ -21,9 +21,9 @@ loop-inner-preserved t c =
     ∙ ap (λ f. (old ++ name ∷ flat_map names_in_factor (take i factors)) ++ names_in_factor f) c.inner-item.is
     ∙ one_more_factor old name factors i _ c.loop-inner-test.true
 
-pub returns-in-Some : goal.returns-in-Some
-returns-in-Some t c =
-    let old = c.args.names.old.items in
+pub returns-after-loop-inner : goal.returns-after-loop-inner
+returns-after-loop-inner t c =
+    let old = c.args.names.now.items in
     let name = (out-RawFactor c.args.factor.now).name in
     c.loop-inner.invariant
     ∙ ap (λ fs. old ++ name ∷ flat_map names_in_factor fs)

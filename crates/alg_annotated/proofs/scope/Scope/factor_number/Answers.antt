@@ -5,8 +5,8 @@ use Rattle.alg_reify.specs.Table.{atom_eq}
 use Rattle.alg_annotated.proofs.ClearMonomials.{atom_found, number_found}
 use Rattle.alg_annotated.proofs.scope.Scope.factor_number.Goals as goal
 
-pub returns-in-Some : goal.returns-in-Some
-returns-in-Some c =
+pub returns : goal.returns
+returns c =
     let file = c.args.self.now.declared.now in
     let text = c.args.self.now.text.now in
     let atoms = unwrap_or c.args.atoms.now [] in

@@ -26,7 +26,7 @@ pub overflow_cast-exponent : goal.overflow_cast-exponent
 overflow_cast-exponent c =
     let low = sum_by_more_le exponent_of c.args.factors.now c.loop-factor.factor-index c.factor-item.result
     c.loop-factor-test.true in
-    let is = c.exponent_of.ensures ∙ ap exponent_of c.factor-item.is in
+    let is = c.exponent_of-exponent.ensures ∙ ap exponent_of c.factor-item.is in
     omega (arith, low, is, c.requires.low)
 
 pub loop-factor-preserved : goal.loop-factor-preserved
@@ -38,7 +38,7 @@ loop-factor-preserved c =
     let factors = c.args.factors.now in
     let i = c.loop-factor.factor-index in
     let number = c.in_ok-number.ensures ∙ ap (λ f. number_of atoms (factor_atom file text f)) c.factor-item.is in
-    let exponent = c.exponent_of.ensures ∙ ap exponent_of c.factor-item.is in
+    let exponent = c.exponent_of-exponent.ensures ∙ ap exponent_of c.factor-item.is in
     c.in_ok-push.ensures.items
     ∙ ap (λ ps. ps ++ _ ∷ []) c.loop-factor.invariant
     ∙ ap (λ p. map pair (take i factors) ++ p ∷ [])
