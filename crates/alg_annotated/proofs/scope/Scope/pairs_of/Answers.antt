@@ -40,7 +40,7 @@ loop-factor-preserved c =
     let number = c.in_ok-number.ensures ∙ ap (λ f. number_of atoms (factor_atom file text f)) c.factor-item.is in
     let exponent = c.exponent_of-exponent.ensures ∙ ap exponent_of c.factor-item.is in
     c.in_ok-push.ensures.items
-    ∙ ap (λ ps. ps ++ _ ∷ []) c.loop-factor.invariant
+    ∙ ap (λ ps. ps ++ (c.in_ok-number.number, c.exponent_of-exponent.result) ∷ []) c.loop-factor.invariant
     ∙ ap (λ p. map pair (take i factors) ++ p ∷ [])
     (sym (pair_from file text atoms (get_or factors i c.factor-item.result) _ _ number exponent))
     ∙ sym (map_more pair factors i c.factor-item.result c.loop-factor-test.true)

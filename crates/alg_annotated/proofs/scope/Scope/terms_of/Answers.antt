@@ -29,6 +29,6 @@ loop-raw-preserved c =
     let raws = c.args.raws.now in
     let i = c.loop-raw.raw-index in
     c.in_ok-push.ensures.items
-    ∙ ap (λ ts. ts ++ _ ∷ []) c.loop-raw.invariant
+    ∙ ap (λ ts. ts ++ c.in_ok-term_of.field-0 ∷ []) c.loop-raw.invariant
     ∙ ap (λ t. map term (take i raws) ++ t ∷ []) (c.in_ok-term_of.ensures ∙ ap term c.raw-item.is)
     ∙ sym (map_more term raws i c.raw-item.result c.loop-raw-test.true)
