@@ -15,7 +15,7 @@ pub loop-inner-preserved : goal.loop-inner-preserved
 loop-inner-preserved t c =
     let old = c.args.names.now.items in
     let name = (out-RawFactor c.args.factor.now).name in
-    let factors = c.as_slice.result.now in
+    let factors = c.as_slice-inner-items.result.now in
     let i = c.loop-inner.inner-index in
     c.in_ok-add_names.ensures ∙ ap (λ ns. ns ++ names_in_factor c.inner-item.result) c.loop-inner.invariant
     ∙ ap (λ f. (old ++ name ∷ flat_map names_in_factor (take i factors)) ++ names_in_factor f) c.inner-item.is
@@ -27,5 +27,5 @@ returns-after-loop-inner t c =
     let name = (out-RawFactor c.args.factor.now).name in
     c.loop-inner.invariant
     ∙ ap (λ fs. old ++ name ∷ flat_map names_in_factor fs)
-    (take_all c.loop-inner.inner-index c.as_slice.result.now (omega arith) ∙ c.as_slice.ensures)
+    (take_all c.loop-inner.inner-index c.as_slice-inner-items.result.now (omega arith) ∙ c.as_slice-inner-items.ensures)
     ∙ ap (λ ns. old ++ ns) (sym (names_inside c.args.factor.now _ c.in-Some.is))

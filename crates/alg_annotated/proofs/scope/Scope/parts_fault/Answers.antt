@@ -18,5 +18,5 @@ returns-in-No c =
     (sym c.in-No.is)
     (subst
     (λ (atoms : List Atom). IfOk c.mono_fault.result (λ (f : Option Refusal).
-    f ≡ first_of (mono_faults file text atoms _)))
+    f ≡ first_of (mono_faults file text atoms c.in-No.at)))
     c.requires.atoms c.mono_fault.ensures)
