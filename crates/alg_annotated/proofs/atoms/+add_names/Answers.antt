@@ -17,7 +17,7 @@ loop-inner-preserved t c =
     let name = (out-RawFactor c.args.factor.now).name in
     let factors = c.as_slice-inner-items.result.now in
     let i = c.loop-inner.inner-index in
-    c.in_ok-add_names.ensures ∙ ap (λ ns. ns ++ names_in_factor c.inner-item.result) c.loop-inner.invariant
+    c.in_ok-add_names-in-Some.ensures ∙ ap (λ ns. ns ++ names_in_factor c.inner-item.result) c.loop-inner.invariant
     ∙ ap (λ f. (old ++ name ∷ flat_map names_in_factor (take i factors)) ++ names_in_factor f) c.inner-item.is
     ∙ one_more_factor old name factors i _ c.loop-inner-test.true
 
