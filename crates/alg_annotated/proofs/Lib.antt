@@ -4,7 +4,10 @@ pub mod Lasts
 pub mod Sizes
 pub mod AnswersKept
 pub mod Clear
+pub mod ClearMonomials
 pub mod Statements
 pub mod Progressing
 pub mod Ends
 pub mod TextSteps
+pub mod LinesClear
+pub mod LastGoal
