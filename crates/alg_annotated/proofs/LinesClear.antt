@@ -42,19 +42,25 @@ module _ (file : File) (text : List ℕ) (atoms : List Atom) (are : atoms ≡ go
   clear : (m : RawMono) → mono_faults file text (goal_atoms file (last_goal file)) m ≡ [] → Clear m
   clear m none = subst (λ (xs : List Atom). mono_faults file text xs m ≡ []) (sym are) none
 
-  -- the parts of a line
-  pub line_clear : (a : RawNumber) (m : RawMono) (i b : RawNumber) (n : RawMono) (j d : RawNumber) →
-      statement_faults file text 0 (raws.Line a m i b n j d) ≡ [] →
-      Clear m × (unsigned_abs i.value ≤ MAX_COUNT) × Clear n × (unsigned_abs j.value ≤ MAX_COUNT)
-  line_clear a m i b n j d none =
-      let (first, others) = parts_empty (mono_faults file text (goal_atoms file (last_goal file)) m) _ none in
-      let (line, later) = parts_empty (count_fault i) _ others in
-      let (second, other) = parts_empty (mono_faults file text (goal_atoms file (last_goal file)) n) _ later in
-      (clear m first, count_low i line, clear n second, count_low j other)
+  module _ (kind : RawKind) (none : statement_faults file text 0 kind ≡ []) where
+    none_of : (other : RawKind) → kind ≡ other → statement_faults file text 0 other ≡ []
+    none_of other is = subst (λ (k : RawKind). statement_faults file text 0 k ≡ []) is none
 
-  -- the parts of a step
-  pub step_clear : (a b : RawNumber) (n : RawMono) (j d : RawNumber) →
-      statement_faults file text 0 (raws.Step a b n j d) ≡ [] → Clear n × (unsigned_abs j.value ≤ MAX_COUNT)
-  step_clear a b n j d none =
-      let (first, line) = parts_empty (mono_faults file text (goal_atoms file (last_goal file)) n) _ none in
-      (clear n first, count_low j line)
+    -- the parts of a line
+    pub line_clear : (a : RawNumber) (m : RawMono) (i b : RawNumber) (n : RawMono) (j d : RawNumber) →
+        kind ≡ raws.Line a m i b n j d →
+        Clear m × (unsigned_abs i.value ≤ MAX_COUNT) × Clear n × (unsigned_abs j.value ≤ MAX_COUNT)
+    line_clear a m i b n j d is =
+        let atoms_there = goal_atoms file (last_goal file) in
+        let (first, others) = parts_empty (mono_faults file text atoms_there m) _ (none_of (raws.Line a m i b n j d) is) in
+        let (line, later) = parts_empty (count_fault i) _ others in
+        let (second, other) = parts_empty (mono_faults file text atoms_there n) _ later in
+        (clear m first, count_low i line, clear n second, count_low j other)
+
+    -- the parts of a step
+    pub step_clear : (a b : RawNumber) (n : RawMono) (j d : RawNumber) → kind ≡ raws.Step a b n j d →
+        Clear n × (unsigned_abs j.value ≤ MAX_COUNT)
+    step_clear a b n j d is =
+        let atoms_there = goal_atoms file (last_goal file) in
+        let (first, line) = parts_empty (mono_faults file text atoms_there n) _ (none_of (raws.Step a b n j d) is) in
+        (clear n first, count_low j line)

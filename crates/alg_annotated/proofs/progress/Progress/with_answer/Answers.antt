@@ -1,5 +1,5 @@
 use Rattle.std.proofs.Common.{◌≡◌, ◌∙◌, ◌<◌, ◌∷◌, [], ◌++◌, ℕ, List, Option, None, Some, length, sym, ap, subst, arith}
-use Rattle.std.specs.Prelude.{unwrap_or}
+use Rattle.std.specs.Prelude.{not}
 use Rattle.alg_lines.specs.declared.answer.Answer.{Answer}
 use Rattle.alg_reader.specs.declared.raw.RawAnswer.{RawAnswer}
 use Rattle.alg_reader.specs.declared.raw.RawKind.{RawKind}
@@ -10,6 +10,8 @@ use Rattle.alg_reader.specs.WellRead.{IsWellKind}
 use Rattle.alg_terms.specs.declared.file.File.{File}
 use Rattle.alg_terms.specs.declared.term.Atom.{Atom}
 use Rattle.alg_reify.specs.Table.{goal_atoms}
+use Rattle.alg_tokens.specs.declared.code.Code.TheVariants as code
+use Rattle.alg_typing.specs.Faults.{fault_if}
 use Rattle.alg_typing.proofs.FirstFaults.{error_tells_nothing, memory_tells_nothing}
 use Rattle.alg_annotated.specs.declared.open_answer.Open.{Open}
 use Rattle.alg_annotated.specs.Names.{answer_names, statement_names}
@@ -18,7 +20,7 @@ use Rattle.alg_annotated.specs.Places.{place_behind}
 use Rattle.alg_annotated.specs.Progress.{answers_open, place_of}
 use Rattle.alg_annotated.specs.Reading.{first_fault}
 use Rattle.alg_annotated.specs.Resolved.{answer_of, answers_with}
-use Rattle.alg_annotated.specs.Rules.{last_goal, part_faults, statement_faults}
+use Rattle.alg_annotated.specs.Rules.{belongs, last_goal, part_faults, statement_faults}
 use Rattle.alg_annotated.proofs.Clear.{both_empty, no_names, no_others}
 use Rattle.alg_annotated.proofs.Ends.{is_none}
 use Rattle.alg_annotated.proofs.LastGoal.{has_atoms, has_hyps}
@@ -35,7 +37,8 @@ there file front last kind said is may count = goal_there file front last kind (
 no_parts : (file : File) (text : List ℕ) (raw : Raw) (said : RawAnswer) → raw.kind ≡ raws.Answer said →
     first_fault file text raw ≡ None → part_faults file text (last_goal file) said ≡ []
 no_parts file text raw said is none =
-    (both_empty _ (part_faults file text (last_goal file) said)
+    (both_empty (fault_if (not (belongs (last_goal file).method said)) code.Answer raw.start)
+    (part_faults file text (last_goal file) said)
     (subst (λ (k : RawKind). statement_faults file text raw.start k ≡ []) is (no_others file text raw none))).1
 
 pub last_goal-requires : goal.last_goal-requires
