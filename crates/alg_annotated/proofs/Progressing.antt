@@ -124,7 +124,11 @@ module _ (file : File) (text : List ℕ) (front : List (Option Answer)) where
       Some a ≡ with_part file text (goal_atoms file (last_goal file)) kind (Some old) →
       front ++ Some a ∷ [] ≡ answers_with file text kind (front ++ Some old ∷ [])
   part_answers (raws.Line l m i b n j d) old a part is =
-      ap (λ (x : Option Answer). front ++ x ∷ []) is ∙ sym (with_last-append _ front (Some old))
+      ap (λ (x : Option Answer). front ++ x ∷ []) is
+      ∙ sym (with_last-append (with_part file text (goal_atoms file (last_goal file)) (raws.Line l m i b n j d)) front
+      (Some old))
   part_answers (raws.Step l b n j d) old a part is =
-      ap (λ (x : Option Answer). front ++ x ∷ []) is ∙ sym (with_last-append _ front (Some old))
+      ap (λ (x : Option Answer). front ++ x ∷ []) is
+      ∙ sym (with_last-append (with_part file text (goal_atoms file (last_goal file)) (raws.Step l b n j d)) front
+      (Some old))
   part_answers kind old a part is = absurd part

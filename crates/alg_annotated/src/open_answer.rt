@@ -53,8 +53,25 @@ fn lines_of(version: &Option<RawNumber>) -> Place
     ensures { result ≡ places.lines_of version.now }
 {
     match version {
-        Some(number) if number.value.unsigned_abs() == 2 => Place::LinesTwo,
-        _ => Place::Lines,
+        Some(number) => {
+            if number.value.unsigned_abs() == 2 {
+                Place::LinesTwo
+            } else {
+                Place::Lines
+            }
+        }
+        None => Place::Lines,
+    }
+}
+
+/// The place of the steps that follow lines, or steps.
+fn steps_of(place: Place) -> Place
+    ensures { result ≡ places.steps_of place }
+{
+    match place {
+        Place::Lines => Place::Steps,
+        Place::LinesTwo => Place::StepsTwo,
+        _ => place,
     }
 }
 
@@ -63,9 +80,8 @@ fn place_behind_part(place: Place, kind: &RawKind) -> Place
     requires { IsLineOrStep kind.now }
     ensures { result ≡ places.place_behind place kind.now }
 {
-    match (kind, place) {
-        (RawKind::Step { .. }, Place::Lines) => Place::Steps,
-        (RawKind::Step { .. }, Place::LinesTwo) => Place::StepsTwo,
+    match kind {
+        RawKind::Step { .. } => steps_of(place),
         _ => place,
     }
 }
@@ -93,7 +109,10 @@ fn with_one(
 }
 
 /// The answers to all goals so far, with what is open of the last one.
-pub(crate) fn closed(answers: Vec<Option<Answer>>, last: Open) -> Result<Vec<Option<Answer>>, NoMemory>
+pub(crate) fn closed(
+    answers: Vec<Option<Answer>>,
+    last: Open,
+) -> Result<Vec<Option<Answer>>, NoMemory>
     ensures { IfOk result (λ all. all.items ≡ answers.items ++ answers_open last) }
 {
     match last {
@@ -114,7 +133,12 @@ pub(crate) fn closed(answers: Vec<Option<Answer>>, last: Open) -> Result<Vec<Opt
 impl Answered {
     /// With a line or a step.
     #[tactic(none)]
-    pub(crate) fn with_part(self, alloc: Global, scope: &Scope, raw: &Raw) -> Result<Answered, FileEnd>
+    pub(crate) fn with_part(
+        self,
+        alloc: Global,
+        scope: &Scope,
+        raw: &Raw,
+    ) -> Result<Answered, FileEnd>
         requires well_read { IsWellKind scope.now.text.now raw.now.kind }
         requires part { IsLineOrStep raw.now.kind }
         requires there { 0 < length scope.now.declared.now.goals }

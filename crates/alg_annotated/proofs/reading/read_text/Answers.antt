@@ -1,4 +1,4 @@
-use Rattle.std.proofs.Common.{refl, sym, subst, ◌≡◌, ◌≤◌, ℕ, length, ap, Ok, None}
+use Rattle.std.proofs.Common.{sym, subst, ◌≡◌, ◌≤◌, length, Ok}
 use Rattle.std.proofs.lemmas.Str.{IsCharBoundary-start}
 use Rattle.std.proofs.Math.Nat.{le_trans}
 use Rattle.alg_terms.specs.Valid.{IsValid}

@@ -14,7 +14,7 @@ use Rattle.alg_tokens.specs.declared.code.Code.TheVariants as code
 use Rattle.alg_typing.specs.Faults.{fault_if}
 use Rattle.alg_typing.proofs.FirstFaults.{error_tells_nothing, memory_tells_nothing}
 use Rattle.alg_annotated.specs.declared.open_answer.Open.{Open}
-use Rattle.alg_annotated.specs.Names.{answer_names, statement_names}
+use Rattle.alg_annotated.specs.Names.{statement_names}
 use Rattle.alg_annotated.specs.Parts.{IsAnswerPart}
 use Rattle.alg_annotated.specs.Places.{place_behind}
 use Rattle.alg_annotated.specs.Progress.{answers_open, place_of}

@@ -1,8 +1,7 @@
 use Rattle.std.proofs.Common.{◌≡◌, ◌∙◌, ◌∷◌, [], ◌++◌, List, Option, Some, sym, ap, subst}
 use Rattle.std.specs.Prelude.{unwrap_or}
 use Rattle.alg_lines.specs.declared.answer.Answer.{Answer}
-use Rattle.alg_reader.specs.declared.place.Place.{Place}
-use Rattle.alg_reify.specs.Atoms.{Atoms}
+use Rattle.alg_terms.specs.declared.term.Atom.{Atom}
 use Rattle.alg_typing.proofs.FirstFaults.{error_tells_nothing}
 use Rattle.alg_typing.proofs.ReadingSteps.{passed_on}
 use Rattle.alg_annotated.specs.declared.open_answer.Open.{Open}
@@ -46,7 +45,7 @@ returns-in_ok-answered-in-Answer-clause-ok c =
 
 pub returns-in_ok-answered-in-Answer-clause-table : goal.returns-in_ok-answered-in-Answer-clause-table
 returns-in_ok-answered-in-Answer-clause-table c =
-    ap (λ (atoms : Option Atoms). unwrap_or atoms []) c.in_ok-answered-in-Answer.ensures.table
+    ap (λ (atoms : Option (List Atom)). unwrap_or atoms []) c.in_ok-answered-in-Answer.ensures.table
     ∙ subst (HasTable c.args.self.declared) c.in-Answer.is c.requires.table
 
 -- it has a fault, or there is no memory
