@@ -10,3 +10,5 @@ pub mod Statements
 pub mod Progressing
 pub mod Ends
 pub mod TextSteps
+pub mod LinesClear
+pub mod LastGoal

@@ -7,12 +7,14 @@ use Rattle.alg_reader.specs.declared.place.Place.{Place}
 use Rattle.alg_reader.specs.declared.raw.RawAnswer.{RawAnswer}
 use Rattle.alg_reader.specs.declared.raw.RawKind.{RawKind}
 use Rattle.alg_reader.specs.declared.raw.RawKind.TheVariants as raws
+use Rattle.alg_reader.specs.declared.raw.RawMono.{RawMono}
+use Rattle.alg_reader.specs.declared.raw.RawNumber.{RawNumber}
 use Rattle.alg_reader.specs.Places.{MayStand}
 use Rattle.alg_reify.specs.Table.{goal_atoms}
 use Rattle.alg_typing.specs.Resolved.{extended}
-use Rattle.alg_annotated.specs.declared.progress.Answered.{Answered}
-use Rattle.alg_annotated.specs.declared.progress.Open.{Open}
-use Rattle.alg_annotated.specs.declared.progress.Open.TheVariants as opens
+use Rattle.alg_annotated.specs.declared.open_answer.Answered.{Answered}
+use Rattle.alg_annotated.specs.declared.open_answer.Open.{Open}
+use Rattle.alg_annotated.specs.declared.open_answer.Open.TheVariants as opens
 use Rattle.alg_annotated.specs.Parts.{IsAnswerPart, IsLineOrStep}
 use Rattle.alg_annotated.specs.Places.{place_behind}
 use Rattle.alg_annotated.specs.Progress.{answers_open, opened, place_of, HasTable}
@@ -66,6 +68,7 @@ pub goal_there : (file : File) (front : List (Option Answer)) (last : Open) (kin
 goal_there file front opens.Nothing (raws.Answer said) part may count = absurd may
 goal_there file front opens.Nothing (raws.Line a m i b n j d) part may count = absurd may
 goal_there file front opens.Nothing (raws.Step a b n j d) part may count = absurd may
+goal_there file front opens.Nothing kind part may count = absurd part
 goal_there file front opens.Goal kind part may count = omega (arith, one_longer front None, count)
 goal_there file front (opens.Answer answered) kind part may count =
     omega (arith, one_longer front (Some answered.answer), count)
@@ -75,18 +78,31 @@ pub not_open : (last : Open) (kind : RawKind) → IsLineOrStep kind → MayStand
     ((answered : Answered) → last ≢ opens.Answer answered) → ⊥
 not_open opens.Nothing (raws.Line a m i b n j d) part may other = may
 not_open opens.Nothing (raws.Step a b n j d) part may other = may
+not_open opens.Nothing kind part may other = part
 not_open opens.Goal (raws.Line a m i b n j d) part may other = may
 not_open opens.Goal (raws.Step a b n j d) part may other = may
+not_open opens.Goal kind part may other = part
 not_open (opens.Answer answered) kind part may other = other answered refl
 
 pub same_file : (file : File) (text : List ℕ) (kind : RawKind) → IsAnswerPart kind → file ≡ extended file text kind
 same_file file text (raws.Answer said) part = refl
 same_file file text (raws.Line a m i b n j d) part = refl
 same_file file text (raws.Step a b n j d) part = refl
+same_file file text kind part = absurd part
 
 pub part_of_line : (kind : RawKind) → IsLineOrStep kind → IsAnswerPart kind
 part_of_line (raws.Line a m i b n j d) part = tt
 part_of_line (raws.Step a b n j d) part = tt
+part_of_line kind part = absurd part
+
+-- an answer, a line and a step aside, a statement is a declaration, a goal or the end
+pub no_part : (kind : RawKind) → ((said : RawAnswer) → kind ≢ raws.Answer said) →
+    ((a : RawNumber) (m : RawMono) (i b : RawNumber) (n : RawMono) (j d : RawNumber) → kind ≢ raws.Line a m i b n j d) →
+    ((a b : RawNumber) (n : RawMono) (j d : RawNumber) → kind ≢ raws.Step a b n j d) → IsAnswerPart kind → ⊥
+no_part (raws.Answer said) answer line step part = answer said refl
+no_part (raws.Line a m i b n j d) answer line step part = line a m i b n j d refl
+no_part (raws.Step a b n j d) answer line step part = step a b n j d refl
+no_part kind answer line step part = part
 
 module _ (file : File) (text : List ℕ) (front : List (Option Answer)) where
   abbrev answer_to : RawAnswer → Answer
@@ -108,6 +124,11 @@ module _ (file : File) (text : List ℕ) (front : List (Option Answer)) where
       Some a ≡ with_part file text (goal_atoms file (last_goal file)) kind (Some old) →
       front ++ Some a ∷ [] ≡ answers_with file text kind (front ++ Some old ∷ [])
   part_answers (raws.Line l m i b n j d) old a part is =
-      ap (λ (x : Option Answer). front ++ x ∷ []) is ∙ sym (with_last-append _ front (Some old))
+      ap (λ (x : Option Answer). front ++ x ∷ []) is
+      ∙ sym (with_last-append (with_part file text (goal_atoms file (last_goal file)) (raws.Line l m i b n j d)) front
+      (Some old))
   part_answers (raws.Step l b n j d) old a part is =
-      ap (λ (x : Option Answer). front ++ x ∷ []) is ∙ sym (with_last-append _ front (Some old))
+      ap (λ (x : Option Answer). front ++ x ∷ []) is
+      ∙ sym (with_last-append (with_part file text (goal_atoms file (last_goal file)) (raws.Step l b n j d)) front
+      (Some old))
+  part_answers kind old a part is = absurd part

@@ -1,5 +1,5 @@
 -- Each use, line and step takes a byte at least.
-use Rattle.std.proofs.Common.{◌≡◌, ◌≢◌, ◌≤◌, ◌<◌, ◌+◌, ℕ, List, [], ◌∷◌, ◌++◌, length, map, Option, None, Some, refl, ap, sym, ◌∙◌, subst, le_refl, arith}
+use Rattle.std.proofs.Common.{◌≡◌, ◌≢◌, ◌≤◌, ◌+◌, ℕ, List, [], ◌∷◌, ◌++◌, length, map, Option, None, Some, refl, ap, ◌∙◌, arith}
 use Rattle.std.specs.Prelude.{sum_by}
 use Rattle.std.proofs.lemmas.List.{length-map}
 use Rattle.alg_lines.specs.declared.answer.Answer.{Answer}
@@ -18,10 +18,12 @@ use Rattle.alg_reader.specs.declared.raw.RawMethod.{RawMethod}
 use Rattle.alg_reader.specs.declared.raw.RawMethod.TheVariants as methods
 use Rattle.alg_reader.specs.declared.reading.Raw.{Raw}
 use Rattle.alg_reader.specs.WellRead.{IsWellRead, members_in, uses_in}
+use Rattle.alg_reify.specs.Table.{goal_atoms}
 use Rattle.alg_typing.specs.Resolved.{extended, method_of}
 use Rattle.alg_annotated.specs.Kept.{lines_in, size_of}
-use Rattle.alg_annotated.specs.Resolved.{answer_of, answers_with, with_last, with_line, with_step, with_part}
-use Rattle.alg_annotated.proofs.Lasts.{Ending, empty, last, ending, with_last-append, sum_with}
+use Rattle.alg_annotated.specs.Resolved.{answer_of, answers_with, line_of, step_of, with_last, with_line, with_step, with_part}
+use Rattle.alg_annotated.specs.Rules.{last_goal}
+use Rattle.alg_annotated.proofs.Lasts.{Ending, empty, last, ending, one_longer, sum_with, with_last-append}
 
 -- how many uses a goal has
 abbrev uses_by : Goal → ℕ
@@ -29,7 +31,7 @@ uses_by goal = length (uses_of goal.method)
 
 one_line : (l : Line) (said : Option Answer) → lines_in (with_line l said) ≤ lines_in said + 1
 one_line l None = grind (arith)
-one_line l (Some (answer.Certified constants cert)) = grind (arith)
+one_line l (Some (answer.Certified constants cert)) = omega (arith, one_longer cert.lines l)
 one_line l (Some (answer.Proved conditions)) = grind (arith)
 one_line l (Some (answer.No at left right)) = grind (arith)
 one_line l (Some (answer.ZeroDenominator denominator)) = grind (arith)
@@ -41,7 +43,7 @@ one_line l (Some answer.Atoms) = grind (arith)
 
 one_step : (s : GoalStep) (said : Option Answer) → lines_in (with_step s said) ≤ lines_in said + 1
 one_step s None = grind (arith)
-one_step s (Some (answer.Certified constants cert)) = grind (arith)
+one_step s (Some (answer.Certified constants cert)) = omega (arith, one_longer cert.steps s)
 one_step s (Some (answer.Proved conditions)) = grind (arith)
 one_step s (Some (answer.No at left right)) = grind (arith)
 one_step s (Some (answer.ZeroDenominator denominator)) = grind (arith)
@@ -90,6 +92,18 @@ module _ (file : File) (text : List ℕ) (given : List (Option Answer)) where
   abbrev lines : ℕ
   lines = sum_by lines_in given
 
+  abbrev atoms : List Atom
+  atoms = goal_atoms file (last_goal file)
+
+  -- with a line or a step there is at most one more
+  last_part : (kind : RawKind) →
+      ((said : Option Answer) → lines_in (with_part file text atoms kind said) ≤ lines_in said + 1) →
+      uses + sum_by lines_in (with_last (with_part file text atoms kind) given) ≤ uses + lines + 1
+  last_part kind most =
+      let least : sum_by lines_in (with_last (with_part file text atoms kind) given) ≤ lines + 1 =
+      last_grows (with_part file text atoms kind) given most in
+      omega (arith, least)
+
   grown : (kind : RawKind) → kind ≢ raws.End →
       size_of (extended file text kind) (answers_with file text kind given) ≤ size_of file given + members_in kind
   grown raws.End goes = absurd (goes refl)
@@ -98,13 +112,18 @@ module _ (file : File) (text : List ℕ) (given : List (Option Answer)) where
   grown (raws.Vars names sort) goes = grind (arith)
   grown (raws.Hyp name e) goes = grind (arith)
   grown (raws.Goal e method method_at) goes =
-      omega (arith, sum_with uses_by file.goals _, sum_with lines_in given None, uses_same file text method)
+      let more : sum_by uses_by (extended file text (raws.Goal e method method_at)).goals ≡ uses + uses_in method =
+      sum_with uses_by file.goals _ ∙ ap (λ n. uses + n) (uses_same file text method) in
+      let same : sum_by lines_in (given ++ None ∷ []) ≡ lines + 0 = sum_with lines_in given None in
+      omega (arith, more, same)
   grown (raws.Answer said) goes =
-      let least = last_grows (λ before. Some (answer_of file text _ said)) given
-      (λ before. omega (arith, none_yet file text _ said)) in
+      let answer : Answer = answer_of file text atoms said in
+      let least : sum_by lines_in (with_last (λ before. Some answer) given) ≤ lines + 1 =
+      last_grows (λ before. Some answer) given (λ before. omega (arith, none_yet file text atoms said)) in
       omega (arith, least)
-  grown (raws.Line a m i b n j d) goes = omega (arith, last_grows _ given (one_line _))
-  grown (raws.Step a b n j d) goes = omega (arith, last_grows _ given (one_step _))
+  grown (raws.Line a m i b n j d) goes =
+      last_part (raws.Line a m i b n j d) (one_line (line_of file text atoms a m i b n j d))
+  grown (raws.Step a b n j d) goes = last_part (raws.Step a b n j d) (one_step (step_of file text atoms a b n j d))
 
   -- uses, lines and steps so far are at most as many as the bytes that were read
   pub still_sized : (at : ℕ) (raw : Raw) → IsWellRead text at raw → raw.kind ≢ raws.End → size_of file given ≤ at →

@@ -1,5 +1,6 @@
 -- What one more statement without fault keeps of an annotated file.
 use Rattle.std.proofs.Common.{◌≡◌, ◌≢◌, ◌+◌, ℕ, List, [], ◌∷◌, ◌++◌, length, Option, None, Some, IfSome, refl, ap, sym, ◌∙◌}
+use Rattle.std.specs.Prelude.{not}
 use Rattle.std.specs.Option.{option_or, option_map}
 use Rattle.alg_lines.specs.declared.answer.Answer.{Answer}
 use Rattle.alg_terms.specs.declared.file.File.{File}
@@ -12,7 +13,7 @@ use Rattle.alg_reader.specs.declared.raw.RawKind.TheVariants as raws
 use Rattle.alg_reader.specs.declared.reading.Raw.{Raw}
 use Rattle.alg_reader.specs.WellRead.{IsWellKind}
 use Rattle.alg_reify.specs.Table.{goal_atoms}
-use Rattle.alg_typing.specs.Faults.{first_of}
+use Rattle.alg_typing.specs.Faults.{fault_if, first_of}
 use Rattle.alg_typing.specs.NameFaults.{name_faults}
 use Rattle.alg_typing.specs.Reading as files
 use Rattle.alg_typing.specs.Resolved.{extended}
@@ -22,8 +23,8 @@ use Rattle.alg_annotated.specs.Kept.{AreAnswersTo}
 use Rattle.alg_annotated.specs.Names.{statement_names}
 use Rattle.alg_annotated.specs.Parts.{IsAnswerPart}
 use Rattle.alg_annotated.specs.Reading.{first_fault}
-use Rattle.alg_annotated.specs.Resolved.{answer_of, answers_with, with_part}
-use Rattle.alg_annotated.specs.Rules.{last_goal, statement_faults, part_faults}
+use Rattle.alg_annotated.specs.Resolved.{answer_of, answers_with, line_of, step_of, with_part}
+use Rattle.alg_annotated.specs.Rules.{belongs, last_goal, part_faults, statement_faults}
 use Rattle.alg_annotated.proofs.AnswersKept.{same_goals, one_goal, last_changed, line_keeps, step_keeps}
 use Rattle.alg_annotated.proofs.Clear.{both_empty, answer_stands, no_names, no_others}
 use Rattle.alg_annotated.proofs.Lasts.{one_longer}
@@ -50,12 +51,19 @@ module _ (file : File) (text : List ℕ) (valid : IsValid file) (given : List (O
       (one_longer file.goals _) h
   answered (raws.Answer said) start well n s =
       let goal = last_goal file in
-      let parts = (both_empty _ (part_faults file text goal said) s).1 in
-      last_changed file _ (λ before old. answer_stands file text goal (goal_atoms file goal) said well n parts) given h
+      let atoms = goal_atoms file goal in
+      let form = fault_if (not (belongs goal.method said)) code.Answer start in
+      let parts = (both_empty form (part_faults file text goal said) s).1 in
+      last_changed file (λ (before : Option Answer). Some (answer_of file text atoms said))
+      (λ before old. answer_stands file text goal atoms said well n parts) given h
   answered (raws.Line a m i b n j d) start well names s =
-      last_changed file _ (line_keeps file (last_goal file) _) given h
+      let atoms = goal_atoms file (last_goal file) in
+      last_changed file (with_part file text atoms (raws.Line a m i b n j d))
+      (line_keeps file (last_goal file) (line_of file text atoms a m i b n j d)) given h
   answered (raws.Step a b n j d) start well names s =
-      last_changed file _ (step_keeps file (last_goal file) _) given h
+      let atoms = goal_atoms file (last_goal file) in
+      last_changed file (with_part file text atoms (raws.Step a b n j d))
+      (step_keeps file (last_goal file) (step_of file text atoms a b n j d)) given h
 
   -- each goal has an answer or none still, whose terms keep the rules
   pub still_answers : (raw : Raw) → IsWellKind text raw.kind → first_fault file text raw ≡ None →

@@ -7,8 +7,8 @@ use Rattle.alg_reader.specs.declared.place.Place.TheVariants.{Start, AfterGoal}
 use Rattle.alg_reader.specs.declared.raw.RawKind.{RawKind}
 use Rattle.alg_reader.specs.declared.raw.RawKind.TheVariants as raws
 use Rattle.alg_reify.specs.Table.{goal_atoms}
-use Rattle.alg_annotated.specs.declared.progress.Open.{Open}
-use Rattle.alg_annotated.specs.declared.progress.Open.TheVariants as opens
+use Rattle.alg_annotated.specs.declared.open_answer.Open.{Open}
+use Rattle.alg_annotated.specs.declared.open_answer.Open.TheVariants as opens
 use Rattle.alg_annotated.specs.declared.progress.Progress.{Progress}
 use Rattle.alg_annotated.specs.Reading.{SoFar}
 use Rattle.alg_annotated.specs.Rules.{last_goal}

@@ -87,22 +87,25 @@ impl Scope<'_> {
                 j,
                 d,
             } => {
+                let m = self.monomial_of(alloc, atoms, m)?;
+                let n = self.monomial_of(alloc, atoms, n)?;
                 let line = Line {
                     a: a.value,
-                    m: self.monomial_of(alloc, atoms, m)?,
+                    m,
                     i: count_of(i),
                     b: b.value,
-                    n: self.monomial_of(alloc, atoms, n)?,
+                    n,
                     j: count_of(j),
                     d: d.value,
                 };
                 with_line(answer, line)
             }
             RawKind::Step { a, b, n, j, d } => {
+                let n = self.monomial_of(alloc, atoms, n)?;
                 let step = GoalStep {
                     a: a.value,
                     b: b.value,
-                    n: self.monomial_of(alloc, atoms, n)?,
+                    n,
                     j: count_of(j),
                     d: d.value,
                 };

@@ -12,6 +12,7 @@ mod certificates;
 pub mod laws;
 mod monomials;
 mod names;
+mod open_answer;
 mod progress;
 mod reading;
 mod rules;

@@ -1,11 +1,15 @@
-use Rattle.std.proofs.Common.{refl, sym, subst, ◌≡◌, ◌≤◌, ℕ, length, ap, Ok, None}
+use Rattle.std.proofs.Common.{sym, subst, ◌≡◌, ◌≤◌, length, Ok}
 use Rattle.std.proofs.lemmas.Str.{IsCharBoundary-start}
+use Rattle.std.proofs.Math.Nat.{le_trans}
 use Rattle.alg_terms.specs.Valid.{IsValid}
 use Rattle.alg_reader.specs.declared.place.Place.{Place}
+use Rattle.alg_reader.specs.Places.{MayStand}
 use Rattle.alg_reader.specs.Statements.{IsRead}
-use Rattle.alg_typing.proofs.FirstFaults.{error_tells_nothing}
+use Rattle.alg_typing.proofs.FirstFaults.{error_tells_nothing, memory_tells_nothing}
 use Rattle.alg_typing.proofs.ReadingSteps.{smaller, decides_still, ends_here, told_reading, told_fault, passed_on}
 use Rattle.alg_typing.proofs.RoomForStatements.{goes_on}
+use Rattle.alg_annotated.specs.declared.annotated.Annotated.{Annotated}
+use Rattle.alg_annotated.specs.Kept.{AreAnswersTo, size_of}
 use Rattle.alg_annotated.specs.Progress.{so_far}
 use Rattle.alg_annotated.specs.Reading.{SoFar, ReadsAnnotated, annotated_way, nothing_yet}
 use Rattle.alg_annotated.proofs.TextSteps.{Holds, holds_at_first, room_for, still_holds}
@@ -48,3 +52,105 @@ returns-in_err-raw-clause-refused c =
     (told_reading (annotated_way text) text nothing_yet c.statements.at (so_far c.statements.now) _
     c.statements.invariant.decides
     (subst (λ (p : Place). IsRead p text c.statements.at _) c.place-place.ensures c.in_err-raw.ensures.read))
+
+-- the text ends
+pub returns-in_ok-all-in-End-clause-ok : goal.returns-in_ok-all-in-End-clause-ok
+returns-in_ok-all-in-End-clause-ok c =
+    let text = c.args.text.now in
+    let raw = c.in_ok-raw.raw in
+    let read = subst (λ (p : Place). IsRead p text c.statements.at (Ok raw)) c.place-place.ensures
+    c.in_ok-raw.ensures.read in
+    subst (λ (all : Annotated). ReadsAnnotated text 0 nothing_yet (Ok all)) (sym c.in_ok-all-in-End.ensures.ok)
+    (ends_here (annotated_way text) text nothing_yet c.statements.at (so_far c.statements.now) raw
+    c.statements.invariant.decides read c.in-End.is)
+
+pub returns-in_ok-all-in-End-clause-valid : goal.returns-in_ok-all-in-End-clause-valid
+returns-in_ok-all-in-End-clause-valid c = c.in_ok-all-in-End.ensures.valid
+
+pub returns-in_ok-all-in-End-clause-answers : goal.returns-in_ok-all-in-End-clause-answers
+returns-in_ok-all-in-End-clause-answers c =
+    subst (λ (all : Annotated). AreAnswersTo all.file all.answers) (sym c.in_ok-all-in-End.ensures.ok)
+    c.statements.invariant.holds.answers
+
+pub returns-in_ok-all-in-End-clause-few : goal.returns-in_ok-all-in-End-clause-few
+returns-in_ok-all-in-End-clause-few c =
+    subst (λ (all : Annotated). size_of all.file all.answers ≤ length c.args.text.now)
+    (sym c.in_ok-all-in-End.ensures.ok)
+    (le_trans c.statements.invariant.holds.sized c.statements.invariant.boundary.0)
+
+-- there is no memory for the last answer
+pub returns-in_err-all-in-End : goal.returns-in_err-all-in-End
+returns-in_err-all-in-End c =
+    let r = c.from_residual-in_err-all-in-End.result in
+    let is = c.from_residual-in_err-all-in-End.ensures.1 in
+    record {
+      ok = error_tells_nothing _ _ r is;
+      valid = error_tells_nothing _ _ r is;
+      answers = error_tells_nothing _ _ r is;
+      few = error_tells_nothing _ _ r is;
+      refused = memory_tells_nothing _ r is;
+    }
+
+-- a statement is added
+pub with_statement-requires : goal.with_statement-requires
+with_statement-requires c =
+    let invariant = c.statements.invariant in
+    let well = c.in_ok-raw.ensures.well_read in
+    record {
+      size = c.requires;
+      well_read = (c.statements.at, well);
+      may_stand = subst (λ (p : Place). MayStand p c.in_ok-raw.raw.kind) c.place-place.ensures
+          c.in_ok-raw.ensures.may_stand;
+      room = room_for (so_far c.statements.now) c.args.text.now c.statements.at c.in_ok-raw.raw invariant.holds well
+          c.in_default.not-End c.requires;
+      count = invariant.holds.answers.count;
+      table = invariant.table;
+    }
+
+pub statements-smaller : goal.statements-smaller
+statements-smaller c =
+    let well = c.in_ok-raw.ensures.well_read in
+    let now = so_far c.statements.now in
+    smaller (length c.args.text.now) c.statements.at c.in_ok-raw.raw.stop
+    (goes_on now.file c.args.text.now c.statements.at c.in_ok-raw.raw c.statements.invariant.holds.few
+    well c.in_default.not-End c.requires) well.stops.0
+
+pub statements-preserved : goal.statements-preserved
+statements-preserved c =
+    let invariant = c.statements.invariant in
+    let text = c.args.text.now in
+    let raw = c.in_ok-raw.raw in
+    let well = c.in_ok-raw.ensures.well_read in
+    let now = so_far c.statements.now in
+    let goes = c.in_default.not-End in
+    let none = c.in_ok-next.ensures.ok.0 in
+    let is = c.in_ok-next.ensures.ok.1 in
+    let read = subst (λ (p : Place). IsRead p text c.statements.at (Ok raw)) c.place-place.ensures
+    c.in_ok-raw.ensures.read in
+    record {
+      decides = decides_still (annotated_way text) text nothing_yet c.statements.at now (so_far c.in_ok-next.next) raw
+          invariant.decides read goes none is;
+      boundary = well.stops;
+      holds = subst (λ (s : SoFar). Holds s raw.stop) (sym is)
+          (still_holds now text c.statements.at raw invariant.holds well goes c.requires none);
+      table = c.in_ok-next.ensures.table;
+    }
+
+-- a statement has a fault, or there is no memory
+pub returns-in_err-next : goal.returns-in_err-next
+returns-in_err-next c =
+    let text = c.args.text.now in
+    let r = c.from_residual-in_err-next.result in
+    let is = c.from_residual-in_err-next.ensures.1 in
+    let read = subst (λ (p : Place). IsRead p text c.statements.at (Ok c.in_ok-raw.raw)) c.place-place.ensures
+    c.in_ok-raw.ensures.read in
+    record {
+      ok = error_tells_nothing _ _ r is;
+      valid = error_tells_nothing _ _ r is;
+      answers = error_tells_nothing _ _ r is;
+      few = error_tells_nothing _ _ r is;
+      refused = passed_on _ r _ is
+          (told_fault (annotated_way text) text nothing_yet c.statements.at (so_far c.statements.now)
+          c.in_ok-raw.raw _
+          c.statements.invariant.decides read c.in_default.not-End c.in_err-next.ensures.refused);
+    }

@@ -1,14 +1,24 @@
-use Rattle.std.proofs.Common.{◌≡◌, ◌∷◌, [], ◌++◌, List, Option, ◌∙◌, ap, sym, subst}
+use Rattle.std.proofs.Common.{◌≡◌, ◌∷◌, [], ◌++◌, List, Option, Some, ◌∙◌, ap, sym, subst}
 use Rattle.alg_lines.specs.declared.answer.Answer.{Answer}
+use Rattle.alg_tokens.specs.declared.token.Refusal.{Refusal}
+use Rattle.alg_reader.specs.declared.reading.FileEnd.{FileEnd}
+use Rattle.alg_reader.specs.declared.reading.FileEnd.TheVariants.{Refused, NoMemory}
+use Rattle.alg_typing.specs.Ends.{RefusesWith}
 use Rattle.alg_typing.proofs.FirstFaults.{error_tells_nothing, memory_tells_nothing}
 use Rattle.alg_typing.proofs.ReadingSteps.{passed_on}
-use Rattle.alg_annotated.specs.declared.progress.Open.{Open}
+use Rattle.alg_annotated.specs.declared.open_answer.Open.{Open}
 use Rattle.alg_annotated.specs.Progress.{answers_open, opened, place_of, so_far, HasTable}
 use Rattle.alg_annotated.specs.Places.{place_behind}
 use Rattle.alg_annotated.specs.Resolved.{answers_with}
 use Rattle.alg_annotated.proofs.Progressing.{declared_answers, declared_place, declared_table}
 use Rattle.alg_annotated.proofs.Statements.{first_is_same}
 use Rattle.alg_annotated.proofs.progress.Progress.with_declaration.Goals as goal
+
+-- what is told of one fault is told of the same
+told_same : (a b : Option Refusal) (e : FileEnd) → a ≡ b → RefusesWith e (λ fault. b ≡ Some fault) →
+    RefusesWith e (λ fault. a ≡ Some fault)
+told_same a b NoMemory is told = tt
+told_same a b (Refused fault) is told = is ∙ told
 
 -- what is open goes to the answers, and the statement to the file
 pub returns-clause-ok : goal.returns-clause-ok
@@ -30,5 +40,29 @@ returns-clause-ok c =
 
 pub returns-clause-table : goal.returns-clause-table
 returns-clause-table c =
-    subst (λ (o : Open). HasTable c.add.new.declared o) (sym c.opened-last.ensures)
-    (declared_table c.add.new.declared c.args.raw.kind)
+    subst (λ (o : Open). HasTable c.add.new.self o) (sym c.opened-last.ensures)
+    (declared_table c.add.new.self c.args.raw.kind)
+
+pub add-requires : goal.add-requires
+add-requires c = record { size = c.requires.size; well_read = c.requires.well_read; room = c.requires.room }
+
+-- there is no memory
+pub returns-in_err-answers : goal.returns-in_err-answers
+returns-in_err-answers c = record {
+  ok = error_tells_nothing _ _ c.from_residual.result c.from_residual.ensures.1;
+  table = error_tells_nothing _ _ c.from_residual.result c.from_residual.ensures.1;
+  refused = memory_tells_nothing _ c.from_residual.result c.from_residual.ensures.1;
+}
+
+-- the statement has a fault, or there is no memory
+pub returns-in_err-add : goal.returns-in_err-add
+returns-in_err-add c =
+    let r = c.from_residual-in_err-add.result in
+    let is = c.from_residual-in_err-add.ensures.1 in
+    record {
+      ok = error_tells_nothing _ _ r is;
+      table = error_tells_nothing _ _ r is;
+      refused = passed_on _ r _ is
+          (told_same _ _ _ (first_is_same c.args.self.declared c.args.text.now c.args.raw c.requires.declared)
+          c.in_err-add.ensures.refused);
+    }
