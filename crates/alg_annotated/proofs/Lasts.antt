@@ -29,4 +29,4 @@ one_longer xs x = length-append xs (x ∷ [])
 
 -- the sum over a list with one more member
 pub sum_with : {X : Type 0} (f : X → ℕ) (xs : List X) (x : X) → sum_by f (xs ++ x ∷ []) ≡ sum_by f xs + f x
-sum_with f xs x = sum_by-append f xs (x ∷ [])
+sum_with f xs x = let sum = sum_by-append f xs (x ∷ []) in omega (arith, sum)

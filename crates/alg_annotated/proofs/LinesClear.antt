@@ -52,9 +52,11 @@ module _ (file : File) (text : List ℕ) (atoms : List Atom) (are : atoms ≡ go
         Clear m × (unsigned_abs i.value ≤ MAX_COUNT) × Clear n × (unsigned_abs j.value ≤ MAX_COUNT)
     line_clear a m i b n j d is =
         let atoms_there = goal_atoms file (last_goal file) in
-        let (first, others) = parts_empty (mono_faults file text atoms_there m) _ (none_of (raws.Line a m i b n j d) is) in
-        let (line, later) = parts_empty (count_fault i) _ others in
-        let (second, other) = parts_empty (mono_faults file text atoms_there n) _ later in
+        let faults = mono_faults file text atoms_there in
+        let (front, other) = parts_empty (faults m ++ count_fault i ++ faults n) (count_fault j)
+        (none_of (raws.Line a m i b n j d) is) in
+        let (fronter, second) = parts_empty (faults m ++ count_fault i) (faults n) front in
+        let (first, line) = parts_empty (faults m) (count_fault i) fronter in
         (clear m first, count_low i line, clear n second, count_low j other)
 
     -- the parts of a step
@@ -62,5 +64,6 @@ module _ (file : File) (text : List ℕ) (atoms : List Atom) (are : atoms ≡ go
         Clear n × (unsigned_abs j.value ≤ MAX_COUNT)
     step_clear a b n j d is =
         let atoms_there = goal_atoms file (last_goal file) in
-        let (first, line) = parts_empty (mono_faults file text atoms_there n) _ (none_of (raws.Step a b n j d) is) in
+        let (first, line) = parts_empty (mono_faults file text atoms_there n) (count_fault j)
+        (none_of (raws.Step a b n j d) is) in
         (clear n first, count_low j line)

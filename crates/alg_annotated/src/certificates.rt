@@ -89,24 +89,27 @@ impl Scope<'_> {
             } => {
                 let m = self.monomial_of(alloc, atoms, m)?;
                 let n = self.monomial_of(alloc, atoms, n)?;
+                let i = count_of(i);
+                let j = count_of(j);
                 let line = Line {
                     a: a.value,
                     m,
-                    i: count_of(i),
+                    i,
                     b: b.value,
                     n,
-                    j: count_of(j),
+                    j,
                     d: d.value,
                 };
                 with_line(answer, line)
             }
             RawKind::Step { a, b, n, j, d } => {
                 let n = self.monomial_of(alloc, atoms, n)?;
+                let j = count_of(j);
                 let step = GoalStep {
                     a: a.value,
                     b: b.value,
                     n,
-                    j: count_of(j),
+                    j,
                     d: d.value,
                 };
                 with_step(answer, step)

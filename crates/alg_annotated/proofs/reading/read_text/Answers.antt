@@ -1,10 +1,13 @@
-use Rattle.std.proofs.Common.{sym, subst, ◌≡◌, ◌≤◌, length, Ok}
+use Rattle.std.proofs.Common.{sym, subst, ◌≡◌, ◌≤◌, ℕ, List, Result, length, Ok, Err}
 use Rattle.std.proofs.lemmas.Str.{IsCharBoundary-start}
 use Rattle.std.proofs.Math.Nat.{le_trans}
 use Rattle.alg_terms.specs.Valid.{IsValid}
 use Rattle.alg_reader.specs.declared.place.Place.{Place}
+use Rattle.alg_reader.specs.declared.reading.FileEnd.{FileEnd}
 use Rattle.alg_reader.specs.Places.{MayStand}
 use Rattle.alg_reader.specs.Statements.{IsRead}
+use Rattle.alg_tokens.specs.declared.token.Refusal.{Refusal}
+use Rattle.alg_typing.specs.Ends.{RefusesWith}
 use Rattle.alg_typing.proofs.FirstFaults.{error_tells_nothing, memory_tells_nothing}
 use Rattle.alg_typing.proofs.ReadingSteps.{smaller, decides_still, ends_here, told_reading, told_fault, passed_on}
 use Rattle.alg_typing.proofs.RoomForStatements.{goes_on}
@@ -14,6 +17,16 @@ use Rattle.alg_annotated.specs.Progress.{so_far}
 use Rattle.alg_annotated.specs.Reading.{SoFar, ReadsAnnotated, annotated_way, nothing_yet}
 use Rattle.alg_annotated.proofs.TextSteps.{Holds, holds_at_first, room_for, still_holds}
 use Rattle.alg_annotated.proofs.reading.read_text.Goals as goal
+
+-- what is told of a statement that can't be read
+told_at : (text : List ℕ) (at : ℕ) (now : SoFar) (place : Place) → place ≡ now.place →
+    ((outcome : Result Annotated Refusal) → ReadsAnnotated text at now outcome →
+    ReadsAnnotated text 0 nothing_yet outcome) →
+    (end : FileEnd) → IsRead place text at (Err end) →
+    RefusesWith end (λ fault. ReadsAnnotated text 0 nothing_yet (Err fault))
+told_at text at now place is decides end read =
+    told_reading (annotated_way text) text nothing_yet at now end decides
+    (subst (λ (p : Place). IsRead p text at (Err end)) is read)
 
 pub statements-init : goal.statements-init
 statements-init c =
@@ -49,40 +62,39 @@ pub returns-in_err-raw-clause-refused : goal.returns-in_err-raw-clause-refused
 returns-in_err-raw-clause-refused c =
     let text = c.args.text.now in
     passed_on _ c.from_residual.result _ c.from_residual.ensures.1
-    (told_reading (annotated_way text) text nothing_yet c.statements.at (so_far c.statements.now) _
-    c.statements.invariant.decides
-    (subst (λ (p : Place). IsRead p text c.statements.at _) c.place-place.ensures c.in_err-raw.ensures.read))
+    (told_at text c.statements.at (so_far c.statements.now) c.place-place.result c.place-place.ensures
+    c.statements.invariant.decides _ c.in_err-raw.ensures.read)
 
 -- the text ends
-pub returns-in_ok-all-in-End-clause-ok : goal.returns-in_ok-all-in-End-clause-ok
-returns-in_ok-all-in-End-clause-ok c =
+pub returns-in-End-clause-ok : goal.returns-in-End-clause-ok
+returns-in-End-clause-ok c =
     let text = c.args.text.now in
     let raw = c.in_ok-raw.raw in
     let read = subst (λ (p : Place). IsRead p text c.statements.at (Ok raw)) c.place-place.ensures
     c.in_ok-raw.ensures.read in
-    subst (λ (all : Annotated). ReadsAnnotated text 0 nothing_yet (Ok all)) (sym c.in_ok-all-in-End.ensures.ok)
+    subst (λ (all : Annotated). ReadsAnnotated text 0 nothing_yet (Ok all)) (sym c.in_ok-all.ensures.ok)
     (ends_here (annotated_way text) text nothing_yet c.statements.at (so_far c.statements.now) raw
     c.statements.invariant.decides read c.in-End.is)
 
-pub returns-in_ok-all-in-End-clause-valid : goal.returns-in_ok-all-in-End-clause-valid
-returns-in_ok-all-in-End-clause-valid c = c.in_ok-all-in-End.ensures.valid
+pub returns-in-End-clause-valid : goal.returns-in-End-clause-valid
+returns-in-End-clause-valid c = c.in_ok-all.ensures.valid
 
-pub returns-in_ok-all-in-End-clause-answers : goal.returns-in_ok-all-in-End-clause-answers
-returns-in_ok-all-in-End-clause-answers c =
-    subst (λ (all : Annotated). AreAnswersTo all.file all.answers) (sym c.in_ok-all-in-End.ensures.ok)
+pub returns-in-End-clause-answers : goal.returns-in-End-clause-answers
+returns-in-End-clause-answers c =
+    subst (λ (all : Annotated). AreAnswersTo all.file all.answers) (sym c.in_ok-all.ensures.ok)
     c.statements.invariant.holds.answers
 
-pub returns-in_ok-all-in-End-clause-few : goal.returns-in_ok-all-in-End-clause-few
-returns-in_ok-all-in-End-clause-few c =
+pub returns-in-End-clause-few : goal.returns-in-End-clause-few
+returns-in-End-clause-few c =
     subst (λ (all : Annotated). size_of all.file all.answers ≤ length c.args.text.now)
-    (sym c.in_ok-all-in-End.ensures.ok)
+    (sym c.in_ok-all.ensures.ok)
     (le_trans c.statements.invariant.holds.sized c.statements.invariant.boundary.0)
 
 -- there is no memory for the last answer
-pub returns-in_err-all-in-End : goal.returns-in_err-all-in-End
-returns-in_err-all-in-End c =
-    let r = c.from_residual-in_err-all-in-End.result in
-    let is = c.from_residual-in_err-all-in-End.ensures.1 in
+pub returns-in_err-all : goal.returns-in_err-all
+returns-in_err-all c =
+    let r = c.from_residual-in_err-all.result in
+    let is = c.from_residual-in_err-all.ensures.1 in
     record {
       ok = error_tells_nothing _ _ r is;
       valid = error_tells_nothing _ _ r is;

@@ -1,4 +1,4 @@
-use Rattle.std.proofs.Common.{◌≡◌, ◌∙◌, ◌<◌, ◌∷◌, [], ◌++◌, ℕ, List, Option, None, Some, length, sym, ap, subst, arith}
+use Rattle.std.proofs.Common.{◌≡◌, ◌∙◌, ◌<◌, ◌∷◌, [], ◌++◌, ℕ, List, Option, None, Some, length, refl, sym, ap, subst, arith}
 use Rattle.std.specs.Prelude.{not}
 use Rattle.alg_lines.specs.declared.answer.Answer.{Answer}
 use Rattle.alg_reader.specs.declared.raw.RawAnswer.{RawAnswer}
@@ -40,6 +40,9 @@ no_parts file text raw said is none =
     (both_empty (fault_if (not (belongs (last_goal file).method said)) code.Answer raw.start)
     (part_faults file text (last_goal file) said)
     (subst (λ (k : RawKind). statement_faults file text raw.start k ≡ []) is (no_others file text raw none))).1
+
+pub same-declared : goal.same-declared
+same-declared c = refl
 
 pub last_goal-requires : goal.last_goal-requires
 last_goal-requires c =

@@ -1,4 +1,4 @@
-use Rattle.std.proofs.Common.{◌≡◌, ◌∷◌, [], ◌++◌, List, Option, Some, ◌∙◌, ap, sym, subst}
+use Rattle.std.proofs.Common.{◌≡◌, ◌∷◌, [], ◌++◌, List, Option, Some, ◌∙◌, ap, refl, sym, subst}
 use Rattle.alg_lines.specs.declared.answer.Answer.{Answer}
 use Rattle.alg_tokens.specs.declared.token.Refusal.{Refusal}
 use Rattle.alg_reader.specs.declared.reading.FileEnd.{FileEnd}
@@ -42,6 +42,12 @@ pub returns-clause-table : goal.returns-clause-table
 returns-clause-table c =
     subst (λ (o : Open). HasTable c.add.new.self o) (sym c.opened-last.ensures)
     (declared_table c.add.new.self c.args.raw.kind)
+
+pub same-declared : goal.same-declared
+same-declared c = refl
+
+pub same-declared-2 : goal.same-declared-2
+same-declared-2 c = refl
 
 pub add-requires : goal.add-requires
 add-requires c = record { size = c.requires.size; well_read = c.requires.well_read; room = c.requires.room }

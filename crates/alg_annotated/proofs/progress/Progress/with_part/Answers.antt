@@ -1,4 +1,4 @@
-use Rattle.std.proofs.Common.{◌≡◌, ◌∙◌, ◌∷◌, [], ◌++◌, List, Option, Some, sym, ap, subst}
+use Rattle.std.proofs.Common.{◌≡◌, ◌∙◌, ◌∷◌, [], ◌++◌, List, Option, Some, refl, sym, ap, subst}
 use Rattle.std.specs.Prelude.{unwrap_or}
 use Rattle.alg_lines.specs.declared.answer.Answer.{Answer}
 use Rattle.alg_terms.specs.declared.term.Atom.{Atom}
@@ -10,6 +10,9 @@ use Rattle.alg_annotated.specs.Progress.{answers_open, place_of, HasTable}
 use Rattle.alg_annotated.specs.Resolved.{answers_with}
 use Rattle.alg_annotated.proofs.Progressing.{goal_there, not_open, part_answers, part_of_line, same_file}
 use Rattle.alg_annotated.proofs.progress.Progress.with_part.Goals as goal
+
+pub same-declared : goal.same-declared
+same-declared c = refl
 
 pub with_part-requires : goal.with_part-requires
 with_part-requires c =
@@ -24,8 +27,8 @@ with_part-requires c =
     }
 
 -- the line or the step goes to the open answer
-pub returns-in_ok-answered-in-Answer-clause-ok : goal.returns-in_ok-answered-in-Answer-clause-ok
-returns-in_ok-answered-in-Answer-clause-ok c =
+pub returns-clause-ok : goal.returns-clause-ok
+returns-clause-ok c =
     let self = c.args.self in
     let file = self.declared in
     let text = c.args.text.now in
@@ -43,8 +46,8 @@ returns-in_ok-answered-in-Answer-clause-ok c =
       λ i. record { file = same_file file text kind (part_of_line kind part) i; answers = answers i; place = place i },
     )
 
-pub returns-in_ok-answered-in-Answer-clause-table : goal.returns-in_ok-answered-in-Answer-clause-table
-returns-in_ok-answered-in-Answer-clause-table c =
+pub returns-clause-table : goal.returns-clause-table
+returns-clause-table c =
     ap (λ (atoms : Option (List Atom)). unwrap_or atoms []) c.in_ok-answered-in-Answer.ensures.table
     ∙ subst (HasTable c.args.self.declared) c.in-Answer.is c.requires.table
 
@@ -57,6 +60,10 @@ returns-in_err-answered-in-Answer c = record {
 }
 
 -- no other may stand here
-pub prove-unreachable-requires : goal.prove-unreachable-requires
-prove-unreachable-requires c =
+pub unreachable-requires : goal.unreachable-requires
+unreachable-requires c =
+    not_open c.args.self.last c.args.raw.now.kind c.requires.part c.requires.may_stand c.in_default.not-Answer
+
+pub unreachable-unreachable : goal.unreachable-unreachable
+unreachable-unreachable c =
     not_open c.args.self.last c.args.raw.now.kind c.requires.part c.requires.may_stand c.in_default.not-Answer

@@ -1,4 +1,4 @@
-use Rattle.std.proofs.Common.{List, [], ◌++◌, ◌∙◌, ap, sym}
+use Rattle.std.proofs.Common.{List, [], ◌++◌, ◌∙◌, ap, append_assoc, sym}
 use Rattle.alg_reader.specs.declared.raw.RawKind.{RawKind}
 use Rattle.alg_terms.specs.declared.term.Atom.{Atom}
 use Rattle.alg_reify.specs.Table.{goal_atoms}
@@ -26,5 +26,7 @@ returns-in_ok-second-in-Line c =
     let later = c.earlier-later.ensures ∙ (λ k. earlier_of (c.count_fault.ensures k) (last k))
     ∙ sym (first_of-append (count_fault i) (faults n ++ count_fault j)) in
     c.earlier-in-Line.ensures ∙ (λ k. earlier_of (first k) (later k))
-    ∙ sym (first_of-append (faults m) (count_fault i ++ faults n ++ count_fault j))
+    ∙ sym (first_of-append (faults m) (count_fault i ++ (faults n ++ count_fault j)))
+    ∙ ap (λ fs. first_of fs) (sym (append_assoc (faults m ++ count_fault i) (faults n) (count_fault j)
+    ∙ append_assoc (faults m) (count_fault i) (faults n ++ count_fault j)))
     ∙ ap (λ (kind : RawKind). first_of (statement_faults file text c.args.start kind)) (sym c.in-Line.is)

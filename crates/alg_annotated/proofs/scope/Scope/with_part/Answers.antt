@@ -1,4 +1,7 @@
-use Rattle.std.proofs.Common.{◌≡◌, ◌∙◌, Some, sym, ap, subst}
+use Rattle.std.proofs.Common.{◌≡◌, ◌∙◌, Some, rules, sym, ap, subst}
+use mir.Syntax.{w128}
+use mir.Val.{SFits}
+use Rattle.std.proofs.lemmas.Int.{to_z-of_z}
 use Rattle.std.specs.Prelude.{unwrap_or, []}
 use Rattle.alg_lines.specs.declared.answer.Answer.{Answer}
 use Rattle.alg_lines.specs.declared.cert.GoalStep.{GoalStep}
@@ -22,8 +25,8 @@ monomial_of-requires c =
           l.a l.m l.i l.b l.n l.j l.d l.is).0;
     }
 
-pub monomial_of-requires-2 : goal.monomial_of-requires-2
-monomial_of-requires-2 c =
+pub monomial_of-requires-in-Line : goal.monomial_of-requires-in-Line
+monomial_of-requires-in-Line c =
     let text = c.args.self.now.text.now in
     let l = c.in-Line in
     record {
@@ -32,14 +35,14 @@ monomial_of-requires-2 c =
           l.a l.m l.i l.b l.n l.j l.d l.is).2;
     }
 
-pub count_of-requires : goal.count_of-requires
-count_of-requires c =
+pub count_of-i-requires : goal.count_of-i-requires
+count_of-i-requires c =
     let l = c.in-Line in
     (line_clear c.args.self.now.declared.now c.args.self.now.text.now _ c.requires.atoms c.args.kind.now
     c.requires.faultless l.a l.m l.i l.b l.n l.j l.d l.is).1
 
-pub count_of-requires-2 : goal.count_of-requires-2
-count_of-requires-2 c =
+pub count_of-j-requires : goal.count_of-j-requires
+count_of-j-requires c =
     let l = c.in-Line in
     (line_clear c.args.self.now.declared.now c.args.self.now.text.now _ c.requires.atoms c.args.kind.now
     c.requires.faultless l.a l.m l.i l.b l.n l.j l.d l.is).3
@@ -51,29 +54,32 @@ returns-in_ok-n-in-Line c =
     let atoms = unwrap_or c.args.atoms.now [] in
     let old = c.args.answer in
     let l = c.in-Line in
+    let fits_a : SFits w128 l.a.value = search rules in
+    let fits_b : SFits w128 l.b.value = search rules in
+    let fits_d : SFits w128 l.d.value = search rules in
     let new : Line = record {
       a = l.a.value;
       m = c.in_ok-m-in-Line.m;
-      i = c.count_of.result;
+      i = c.count_of-i.result;
       b = l.b.value;
       n = c.in_ok-n-in-Line.n;
-      j = c.count_of-2.result;
+      j = c.count_of-j.result;
       d = l.d.value;
     } in
     let is : new ≡ line_of file text atoms l.a l.m l.i l.b l.n l.j l.d = λ x. record {
       a = l.a.value;
       m = c.in_ok-m-in-Line.ensures x;
-      i = c.count_of.ensures x;
+      i = c.count_of-i.ensures x;
       b = l.b.value;
       n = c.in_ok-n-in-Line.ensures x;
-      j = c.count_of-2.ensures x;
+      j = c.count_of-j.ensures x;
       d = l.d.value;
     } in
     ok_maps (λ (a : Answer). Some a ≡ with_line new (Some old))
     (λ (a : Answer). Some a ≡ with_part file text atoms c.args.kind.now (Some old))
     (λ a goes. goes ∙ ap (λ (x : Line). with_line x (Some old)) is
     ∙ ap (λ (k : RawKind). with_part file text atoms k (Some old)) (sym l.is))
-    c.with_line.result c.with_line.ensures
+    c.with_line.result (simp to_z-of_z at c.with_line.ensures)
 
 -- ---- a step
 
@@ -87,8 +93,8 @@ monomial_of-requires-in-Step c =
           s.a s.b s.n s.j s.d s.is).0;
     }
 
-pub count_of-requires-in-Step : goal.count_of-requires-in-Step
-count_of-requires-in-Step c =
+pub count_of-j-requires-in-Step : goal.count_of-j-requires-in-Step
+count_of-j-requires-in-Step c =
     let s = c.in-Step in
     (step_clear c.args.self.now.declared.now c.args.self.now.text.now _ c.requires.atoms c.args.kind.now
     c.requires.faultless s.a s.b s.n s.j s.d s.is).1
@@ -100,22 +106,25 @@ returns-in_ok-n-in-Step c =
     let atoms = unwrap_or c.args.atoms.now [] in
     let old = c.args.answer in
     let s = c.in-Step in
+    let fits_a : SFits w128 s.a.value = search rules in
+    let fits_b : SFits w128 s.b.value = search rules in
+    let fits_d : SFits w128 s.d.value = search rules in
     let new : GoalStep = record {
       a = s.a.value;
       b = s.b.value;
       n = c.in_ok-n-in-Step.n;
-      j = c.count_of-in-Step.result;
+      j = c.count_of-j-in-Step.result;
       d = s.d.value;
     } in
     let is : new ≡ step_of file text atoms s.a s.b s.n s.j s.d = λ x. record {
       a = s.a.value;
       b = s.b.value;
       n = c.in_ok-n-in-Step.ensures x;
-      j = c.count_of-in-Step.ensures x;
+      j = c.count_of-j-in-Step.ensures x;
       d = s.d.value;
     } in
     ok_maps (λ (a : Answer). Some a ≡ with_step new (Some old))
     (λ (a : Answer). Some a ≡ with_part file text atoms c.args.kind.now (Some old))
     (λ a goes. goes ∙ ap (λ (x : GoalStep). with_step x (Some old)) is
     ∙ ap (λ (k : RawKind). with_part file text atoms k (Some old)) (sym s.is))
-    c.with_step.result c.with_step.ensures
+    c.with_step.result (simp to_z-of_z at c.with_step.ensures)
