@@ -10,7 +10,8 @@ ghost use Rattle.alg_annotated.specs.Rules.{last_goal, statement_faults};
 use crate::answers::count_of;
 use crate::scope::Scope;
 use alg_lines::{Answer, Cert, GoalStep, Line};
-use alg_reader::RawKind;
+use alg_mono::Mono;
+use alg_reader::{RawKind, RawNumber};
 use alg_reify::Atoms;
 use alg_terms::NoMemory;
 use std::alloc::Global;
@@ -61,6 +62,42 @@ fn with_step(answer: Answer, step: GoalStep) -> Result<Answer, NoMemory>
     }
 }
 
+/// A line of these parts.
+fn made_line(a: &RawNumber, m: Mono, i: u32, b: &RawNumber, n: Mono, j: u32, d: &RawNumber) -> Line
+    ensures { result ≡ record {
+      a = a.now.value;
+      m = m;
+      i = i;
+      b = b.now.value;
+      n = n;
+      j = j;
+      d = d.now.value;
+    } }
+{
+    Line {
+        a: a.value,
+        m,
+        i,
+        b: b.value,
+        n,
+        j,
+        d: d.value,
+    }
+}
+
+/// A step of these parts.
+fn made_step(a: &RawNumber, b: &RawNumber, n: Mono, j: u32, d: &RawNumber) -> GoalStep
+    ensures { result ≡ record { a = a.now.value; b = b.now.value; n = n; j = j; d = d.now.value } }
+{
+    GoalStep {
+        a: a.value,
+        b: b.value,
+        n,
+        j,
+        d: d.value,
+    }
+}
+
 impl Scope<'_> {
     /// An answer to the last goal whose certificate has one more line or step, which has no faults.
     pub(crate) fn with_part(
@@ -91,27 +128,13 @@ impl Scope<'_> {
                 let n = self.monomial_of(alloc, atoms, n)?;
                 let i = count_of(i);
                 let j = count_of(j);
-                let line = Line {
-                    a: a.value,
-                    m,
-                    i,
-                    b: b.value,
-                    n,
-                    j,
-                    d: d.value,
-                };
+                let line = made_line(a, m, i, b, n, j, d);
                 with_line(answer, line)
             }
             RawKind::Step { a, b, n, j, d } => {
                 let n = self.monomial_of(alloc, atoms, n)?;
                 let j = count_of(j);
-                let step = GoalStep {
-                    a: a.value,
-                    b: b.value,
-                    n,
-                    j,
-                    d: d.value,
-                };
+                let step = made_step(a, b, n, j, d);
                 with_step(answer, step)
             }
             _ => unreachable!(),

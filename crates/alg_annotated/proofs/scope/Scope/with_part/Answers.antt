@@ -1,7 +1,4 @@
-use Rattle.std.proofs.Common.{◌≡◌, ◌∙◌, Some, rules, sym, ap, subst}
-use mir.Syntax.{w128}
-use mir.Val.{SFits}
-use Rattle.std.proofs.lemmas.Int.{to_z-of_z}
+use Rattle.std.proofs.Common.{◌≡◌, ◌∙◌, Some, sym, ap, subst}
 use Rattle.std.specs.Prelude.{unwrap_or, []}
 use Rattle.alg_lines.specs.declared.answer.Answer.{Answer}
 use Rattle.alg_lines.specs.declared.cert.GoalStep.{GoalStep}
@@ -54,19 +51,8 @@ returns-in_ok-n-in-Line c =
     let atoms = unwrap_or c.args.atoms.now [] in
     let old = c.args.answer in
     let l = c.in-Line in
-    let fits_a : SFits w128 l.a.value = search rules in
-    let fits_b : SFits w128 l.b.value = search rules in
-    let fits_d : SFits w128 l.d.value = search rules in
-    let new : Line = record {
-      a = l.a.value;
-      m = c.in_ok-m-in-Line.m;
-      i = c.count_of-i.result;
-      b = l.b.value;
-      n = c.in_ok-n-in-Line.n;
-      j = c.count_of-j.result;
-      d = l.d.value;
-    } in
-    let is : new ≡ line_of file text atoms l.a l.m l.i l.b l.n l.j l.d = λ x. record {
+    let new : Line = c.made_line-line.result in
+    let is : new ≡ line_of file text atoms l.a l.m l.i l.b l.n l.j l.d = c.made_line-line.ensures ∙ (λ x. record {
       a = l.a.value;
       m = c.in_ok-m-in-Line.ensures x;
       i = c.count_of-i.ensures x;
@@ -74,12 +60,12 @@ returns-in_ok-n-in-Line c =
       n = c.in_ok-n-in-Line.ensures x;
       j = c.count_of-j.ensures x;
       d = l.d.value;
-    } in
+    }) in
     ok_maps (λ (a : Answer). Some a ≡ with_line new (Some old))
     (λ (a : Answer). Some a ≡ with_part file text atoms c.args.kind.now (Some old))
     (λ a goes. goes ∙ ap (λ (x : Line). with_line x (Some old)) is
     ∙ ap (λ (k : RawKind). with_part file text atoms k (Some old)) (sym l.is))
-    c.with_line.result (simp to_z-of_z at c.with_line.ensures)
+    c.with_line.result c.with_line.ensures
 
 -- ---- a step
 
@@ -106,25 +92,16 @@ returns-in_ok-n-in-Step c =
     let atoms = unwrap_or c.args.atoms.now [] in
     let old = c.args.answer in
     let s = c.in-Step in
-    let fits_a : SFits w128 s.a.value = search rules in
-    let fits_b : SFits w128 s.b.value = search rules in
-    let fits_d : SFits w128 s.d.value = search rules in
-    let new : GoalStep = record {
-      a = s.a.value;
-      b = s.b.value;
-      n = c.in_ok-n-in-Step.n;
-      j = c.count_of-j-in-Step.result;
-      d = s.d.value;
-    } in
-    let is : new ≡ step_of file text atoms s.a s.b s.n s.j s.d = λ x. record {
+    let new : GoalStep = c.made_step-step.result in
+    let is : new ≡ step_of file text atoms s.a s.b s.n s.j s.d = c.made_step-step.ensures ∙ (λ x. record {
       a = s.a.value;
       b = s.b.value;
       n = c.in_ok-n-in-Step.ensures x;
       j = c.count_of-j-in-Step.ensures x;
       d = s.d.value;
-    } in
+    }) in
     ok_maps (λ (a : Answer). Some a ≡ with_step new (Some old))
     (λ (a : Answer). Some a ≡ with_part file text atoms c.args.kind.now (Some old))
     (λ a goes. goes ∙ ap (λ (x : GoalStep). with_step x (Some old)) is
     ∙ ap (λ (k : RawKind). with_part file text atoms k (Some old)) (sym s.is))
-    c.with_step.result (simp to_z-of_z at c.with_step.ensures)
+    c.with_step.result c.with_step.ensures
