@@ -1,8 +1,7 @@
 //! What stands at each place of small texts.
 
-use crate::tests::{Found, Piece, found_at, text_of};
-use crate::{FileEnd, Place, RawAnswer, RawFactor, RawKind, RawMono, RawNumber, read_statement};
-use alg_terms::GREATEST_TEXT;
+use crate::tests::{Found, Piece, found_at, read, text_of};
+use crate::{Place, RawAnswer, RawFactor, RawKind, RawMono, RawNumber};
 use std::alloc::AllocError;
 
 #[test]
@@ -217,15 +216,6 @@ fn terms_of_answers_are_at_most_1000_deep(rt: HostRuntime) -> Result<(), AllocEr
     Ok(())
 }
 
-/// What a statement at the front of a text says.
-fn said(rt: &HostRuntime, text: &str, place: Place) -> Result<RawKind, FileEnd> {
-    if text.len() > GREATEST_TEXT {
-        return Err(FileEnd::NoMemory);
-    }
-    let raw = read_statement(rt.alloc(), text, 0, place)?;
-    Ok(raw.kind)
-}
-
 fn is_number(number: &RawNumber, value: i128, at: u32) -> bool {
     number.value == value && number.at == at
 }
@@ -268,69 +258,97 @@ fn is_variable(mono: &RawMono, var: u32) -> bool {
     }
 }
 
-#[test]
-fn what_answers_say(rt: HostRuntime) {
-    let says = match said(&rt, "no at f(x)^3 : 12 and -7.", Place::AfterGoal) {
-        Ok(RawKind::Answer(RawAnswer::No { at, left, right })) => {
-            is_image(&at, 6, 8, 3) && is_number(&left, 12, 15) && is_number(&right, -7, 22)
+/// Whether this is the answer no at the third power of an image, with the coefficients 12 and -7.
+fn is_no(kind: &RawKind) -> bool {
+    match kind {
+        RawKind::Answer(RawAnswer::No { at, left, right }) => {
+            is_image(at, 6, 8, 3) && is_number(left, 12, 15) && is_number(right, -7, 22)
         }
         _ => false,
-    };
-    assert!(rt; says, "a monomial with two coefficients");
-    let says = match said(&rt, "proved version 2 power 3 if 5 <> 0.", Place::AfterGoal) {
-        Ok(
-            RawKind::Answer(
-                RawAnswer::Certified {
-                    version: Some(version),
-                    power,
-                    constants,
-                },
-            ),
+    }
+}
+
+/// Whether this is a certificate of version 2, of the power 3, with the one constant 5.
+fn is_certified(kind: &RawKind) -> bool {
+    match kind {
+        RawKind::Answer(
+            RawAnswer::Certified {
+                version: Some(version),
+                power,
+                constants,
+            },
         ) => match constants.items() {
             [constant] => {
-                is_number(&version, 2, 15) && is_number(&power, 3, 23) && is_number(constant, 5, 28)
+                is_number(version, 2, 15) && is_number(power, 3, 23) && is_number(constant, 5, 28)
             }
             _ => false,
         },
         _ => false,
+    }
+}
+
+/// Whether this is a line whose first monomial and divisor are left out, each 1 at the first byte.
+fn is_short_line(kind: &RawKind) -> bool {
+    match kind {
+        RawKind::Line {
+            a,
+            m,
+            i,
+            b,
+            n,
+            j,
+            d,
+        } => {
+            is_number(a, 1, 5)
+                && is_one(m, 0)
+                && is_number(i, 2, 8)
+                && is_number(b, -3, 16)
+                && is_variable(n, 20)
+                && is_number(j, 4, 23)
+                && is_number(d, 1, 0)
+        }
+        _ => false,
+    }
+}
+
+/// Whether this is a step with all its parts.
+fn is_step(kind: &RawKind) -> bool {
+    match kind {
+        RawKind::Step { a, b, n, j, d } => {
+            is_number(a, 5, 5)
+                && is_number(b, 6, 13)
+                && is_one(n, 16)
+                && is_number(j, 7, 19)
+                && is_number(d, 8, 26)
+        }
+        _ => false,
+    }
+}
+
+#[test]
+fn what_answers_say(rt: HostRuntime) {
+    let says = match read(&rt, "no at f(x)^3 : 12 and -7.", Place::AfterGoal) {
+        Ok(raw) => is_no(&raw.kind),
+        Err(_) => false,
+    };
+    assert!(rt; says, "a monomial with two coefficients");
+    let says = match read(&rt, "proved version 2 power 3 if 5 <> 0.", Place::AfterGoal) {
+        Ok(raw) => is_certified(&raw.kind),
+        Err(_) => false,
     };
     assert!(rt; says, "a version, a power and a constant");
 }
 
 #[test]
 fn what_lines_say(rt: HostRuntime) {
-    let says = match said(&rt, "line 1, 2 minus -3, x, 4.", Place::LinesTwo) {
-        Ok(
-            RawKind::Line {
-                a,
-                m,
-                i,
-                b,
-                n,
-                j,
-                d,
-            },
-        ) => {
-            is_number(&a, 1, 5)
-                && is_one(&m, 0)
-                && is_number(&i, 2, 8)
-                && is_number(&b, -3, 16)
-                && is_variable(&n, 20)
-                && is_number(&j, 4, 23)
-                && is_number(&d, 1, 0)
-        }
-        _ => false,
+    let says = match read(&rt, "line 1, 2 minus -3, x, 4.", Place::LinesTwo) {
+        Ok(raw) => is_short_line(&raw.kind),
+        Err(_) => false,
     };
     assert!(rt; says, "what is left out is 1, at the first byte");
-    let says = match said(&rt, "step 5 minus 6, 1, 7 over 8.", Place::Lines) {
-        Ok(RawKind::Step { a, b, n, j, d }) => {
-            is_number(&a, 5, 5)
-                && is_number(&b, 6, 13)
-                && is_one(&n, 16)
-                && is_number(&j, 7, 19)
-                && is_number(&d, 8, 26)
-        }
-        _ => false,
+    let says = match read(&rt, "step 5 minus 6, 1, 7 over 8.", Place::Lines) {
+        Ok(raw) => is_step(&raw.kind),
+        Err(_) => false,
     };
     assert!(rt; says, "a step of the first format");
 }

@@ -17,7 +17,7 @@ pub enum Found {
 }
 
 /// What is read at the front of a text that is not too long.
-fn read(rt: &HostRuntime, text: &str, place: Place) -> Result<Raw, FileEnd> {
+pub fn read(rt: &HostRuntime, text: &str, place: Place) -> Result<Raw, FileEnd> {
     if text.len() > GREATEST_TEXT {
         return Err(FileEnd::NoMemory);
     }
