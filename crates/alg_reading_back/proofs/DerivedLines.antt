@@ -28,7 +28,7 @@ use Rattle.alg_reader.specs.PartMeaning.{option_of}
 use Rattle.alg_reader.specs.RawMonos.{mono_one, number_one}
 use Rattle.alg_reader.specs.TermMeaning.{Value, one, two, nothing, mono, combined}
 use Rattle.alg_reader.specs.TermMeaning as values
-use Rattle.alg_reading_back.proofs.DerivedAnswers.{word_before, sign_before, number_before, number_at}
+use Rattle.alg_reading_back.proofs.DerivedConditions.{word_before, sign_before, number_before, number_at}
 use Rattle.alg_reading_back.proofs.DerivedForms.{IsDerived, one_token, given, left_out, by_rule, pieces_before}
 use Rattle.alg_reading_back.proofs.DerivedMonos.{number_derived, integer_derived, factors_derived, mono_derived}
 use Rattle.alg_reading_back.proofs.DerivedStatements.{word_at}

@@ -34,7 +34,8 @@ use Rattle.alg_printer.specs.Printable.{HasParts, IsPrintable}
 use Rattle.alg_printer.specs.Text.{answer_at, IsStatementOf}
 use Rattle.alg_reading_back.specs.ReadingAnswers.{AreNamedBy, CanBePrinted, terms_of}
 use Rattle.alg_reading_back.proofs.AnswersBack.{IsTermThere}
-use Rattle.alg_reading_back.proofs.AnswersTaken.{answer_taken, clear_fault}
+use Rattle.alg_reading_back.proofs.AnswersTaken.{answer_taken}
+use Rattle.alg_reading_back.proofs.PartsTaken.{clear_fault}
 use Rattle.alg_reading_back.proofs.Closed.{IsClosed}
 use Rattle.alg_reading_back.proofs.ClosedFronts.{IsClosedBy, closed_next, front_closed, sort_low}
 use Rattle.alg_reading_back.proofs.FrontNames.{front_distinct}

@@ -33,91 +33,12 @@ use Rattle.alg_reading_back.proofs.WrittenLines.{WrittenLine, indented, written_
 use Rattle.alg_reading_back.proofs.WrittenMonos.{written_mono, written_integer}
 use Rattle.alg_reading_back.proofs.WrittenStatements.{dot}
 use Rattle.alg_reading_back.proofs.WrittenTerms.{space, sign, word, numeral, integer}
-
--- none is open
-none_open : 0 ≤ MAX_OPEN
-none_open = omega arith
-
--- ---- pieces of combinations
+use Rattle.alg_reading_back.proofs.FormatOneParts.{none_open, closes_cofactor, few_before, closes_combined, line_one, step_one}
 
 module _ (file : File) (atoms : List Atom) where
-  closes_cofactor : (format : Format) (m : Monomial) → Closes (cofactor_pieces file format atoms m)
-  closes_cofactor formats.One m =
-      closes_both (written_mono file atoms m).pieces (sign signs.Comma ∷ space ∷ []) (closes_mono file atoms m) (λ d. refl)
-  closes_cofactor formats.Two [] = λ d. refl
-  closes_cofactor formats.Two (e ∷ m) =
-      closes_both (written_mono file atoms (e ∷ m)).pieces (sign signs.Comma ∷ space ∷ [])
-      (closes_mono file atoms (e ∷ m)) (λ d. refl)
-
-  -- behind pieces that close what they open
-  few_behind : (front back : List Piece) → Closes front → OpenFew 0 (front ++ back) → OpenFew 0 back
-  few_behind front back closes few = subst (λ d. OpenFew d back) (closes 0) (few_right 0 front back few)
-
-  few_before : (front back : List Piece) → Closes front → OpenFew 0 front → OpenFew 0 back → OpenFew 0 (front ++ back)
-  few_before front back closes one other =
-      few_both 0 front back one (subst (λ d. OpenFew d back) (sym (closes 0)) other)
-
-  -- a monomial in format 1, by the one in format 2
-  cofactor_one : (m : Monomial) → OpenFew 0 (cofactor_pieces file formats.Two atoms m) →
-      OpenFew 0 (cofactor_pieces file formats.One atoms m)
-  cofactor_one [] few = (none_open, (none_open, tt))
-  cofactor_one (e ∷ m) few = few
-
-  few_integer : (b : ℤ) → OpenFew 0 (written_integer b).pieces
-  few_integer (pos n) = (none_open, tt)
-  few_integer (negsuc n) = (none_open, (none_open, tt))
-
-  combined_one : (first b : ℤ) (n : Monomial) (j : ℕ) (d : ℤ) →
-      OpenFew 0 (written_combined file formats.Two atoms first b n j d).pieces →
-      OpenFew 0 (written_combined file formats.One atoms first b n j d).pieces
-  combined_one first b n j d few =
-      let end = numeral j ∷ divisor_pieces formats.Two d in
-      let there = few_behind (written_integer b).pieces
-      (sign signs.Comma ∷ space ∷ (cofactor_pieces file formats.Two atoms n ++ end)) (closes_integer b) few.1.1 in
-      let last = few_before (cofactor_pieces file formats.One atoms n) (numeral j ∷ over_pieces d)
-      (closes_cofactor formats.One n)
-      (cofactor_one n (few_left 0 (cofactor_pieces file formats.Two atoms n) end there.1))
-      (none_open, (none_open, (none_open, tt))) in
-      (none_open, (none_open, few_before (written_integer b).pieces
-      (sign signs.Comma ∷ space ∷ (cofactor_pieces file formats.One atoms n ++ (numeral j ∷ over_pieces d)))
-      (closes_integer b) (few_integer b) (none_open, last)))
-
-  closes_combined : (format : Format) (first b : ℤ) (n : Monomial) (j : ℕ) (d : ℤ) →
-      Closes (written_combined file format atoms first b n j d).pieces
-  closes_combined format first b n j d =
-      let end = numeral j ∷ divisor_pieces format d in
-      closes_both (written_integer b).pieces (sign signs.Comma ∷ space ∷ (cofactor_pieces file format atoms n ++ end))
-      (closes_integer b) (closes_both (cofactor_pieces file format atoms n) end (closes_cofactor format n)
-      (closes_divisor format d))
-    where
-      closes_divisor : (format : Format) (d : ℤ) → Closes (divisor_pieces format d)
-      closes_divisor formats.One d depth = refl
-      closes_divisor formats.Two d depth =
-          elim (int_eq d (pos 1)) as (λ b. open_behind depth (cond b [] (over_pieces d)) ≡ depth) [
-            | true ↦ refl
-            | false ↦ refl
-          ]
-
-  -- a line, without its dot
-  line_one : (l : Line) → OpenFew 0 (written_line file formats.Two atoms l).pieces →
-      OpenFew 0 (written_line file formats.One atoms l).pieces
-  line_one l few =
-      let two = written_combined file formats.Two atoms (pos l.i) l.b l.n l.j l.d in
-      let one = written_combined file formats.One atoms (pos l.i) l.b l.n l.j l.d in
-      let there = few.1.1.1 in
-      (none_open, (none_open, (none_open, few_before (cofactor_pieces file formats.One atoms l.m) one.pieces
-      (closes_cofactor formats.One l.m)
-      (cofactor_one l.m (few_left 0 (cofactor_pieces file formats.Two atoms l.m) two.pieces there))
-      (combined_one (pos l.i) l.b l.n l.j l.d
-      (few_behind (cofactor_pieces file formats.Two atoms l.m) two.pieces (closes_cofactor formats.Two l.m) there)))))
-
-  step_one : (s : GoalStep) → OpenFew 0 (written_step file formats.Two atoms s).pieces →
-      OpenFew 0 (written_step file formats.One atoms s).pieces
-  step_one s few = (none_open, combined_one s.a s.b s.n s.j s.d few.1)
-
   -- a statement behind two spaces, by what stands before its dot
   few_dot : (pieces : List Piece) → Closes pieces → OpenFew 0 pieces → OpenFew 0 (space ∷ space ∷ (pieces ++ dot))
-  few_dot pieces closes few = few_before pieces dot closes few (none_open, tt)
+  few_dot pieces closes few = few_before file atoms pieces dot closes few (none_open, tt)
 
   line_is : (l : Line) → IsWhole (indented (written_line file formats.One atoms l)) →
       IsLine (indented (written_line file formats.Two atoms l)) →
@@ -126,8 +47,8 @@ module _ (file : File) (atoms : List Atom) where
       let one = written_line file formats.One atoms l in
       let few = few_left 0 (written_line file formats.Two atoms l).pieces dot (few_from 0 0 _ (two.few 0)) in
       let here = few_dot one.pieces
-      (closes_both (cofactor_pieces file formats.One atoms l.m) _ (closes_cofactor formats.One l.m)
-      (closes_combined formats.One (pos l.i) l.b l.n l.j l.d)) (line_one l few) in
+      (closes_both (cofactor_pieces file formats.One atoms l.m) _ (closes_cofactor file atoms formats.One l.m)
+      (closes_combined file atoms formats.One (pos l.i) l.b l.n l.j l.d)) (line_one file atoms l few) in
       record { whole = whole; few = λ at. few_at 0 at (indented one).pieces here }
 
   step_is : (s : GoalStep) → IsWhole (indented (written_step file formats.One atoms s)) →
@@ -136,7 +57,7 @@ module _ (file : File) (atoms : List Atom) where
   step_is s whole two =
       let one = written_step file formats.One atoms s in
       let few = few_left 0 (written_step file formats.Two atoms s).pieces dot (few_from 0 0 _ (two.few 0)) in
-      let here = few_dot one.pieces (closes_combined formats.One s.a s.b s.n s.j s.d) (step_one s few) in
+      let here = few_dot one.pieces (closes_combined file atoms formats.One s.a s.b s.n s.j s.d) (step_one file atoms s few) in
       record { whole = whole; few = λ at. few_at 0 at (indented one).pieces here }
 
   lines_one : (ls : List Line) → AllByRecursion IsWhole (map (λ l. indented (written_line file formats.One atoms l)) ls) →

@@ -80,3 +80,7 @@ pub mod AnsweredLines
 pub mod FewPieces
 pub mod FormatOneLines
 pub mod AnsweredLaws
+pub mod DerivedConditions
+pub mod SpelledAnswerLines
+pub mod FormatOneParts
+pub mod PartsTaken
