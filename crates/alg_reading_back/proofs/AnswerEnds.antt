@@ -1,6 +1,5 @@
 -- The pieces of answers, lines and steps each end where the next begins.
-use Rattle.std.proofs.Common.{◌≤ℤ◌, ℕ, true, false, cond, List, [], ◌∷◌, ◌++◌, refl, arith, ℤ, pos}
-use Rattle.std.specs.Prelude.{All}
+use Rattle.std.proofs.Common.{ℕ, true, false, cond, List, [], ◌∷◌, ◌++◌, refl, arith, ℤ, pos}
 use Rattle.std.specs.List.{AllByRecursion}
 use Rattle.std.specs.Ordering.{int_eq}
 use Rattle.std.proofs.lemmas.Int.{ints}
@@ -49,9 +48,11 @@ fits_count n low = fits_numeral n (omega (arith, ints, low))
 -- ---- conditions and constants
 
 not_zero_ends : EndsAtStop not_zero
-not_zero_ends next stops =
-    ((32, refl, refl), sign_space signs.NotEqual (numeral 0 ∷ []) next
-    ((fits_numeral 0 (omega (arith, ints))).stand next stops))
+not_zero_ends next stops = (
+  (32, refl, refl),
+  sign_space signs.NotEqual (numeral 0 ∷ []) next
+      ((fits_numeral 0 (omega (arith, ints))).stand next stops),
+)
 
 fits_not_zero : (pieces : List Piece) → Fits pieces → Fits (pieces ++ not_zero)
 fits_not_zero pieces one = record {
@@ -66,9 +67,11 @@ module _ {X R : Type 0} (write : X → Written R) (P : X → Type 0) (each : (x 
 
   if_ends : (xs : List X) → AllByRecursion P xs → EndsAtStop (if_pieces write xs)
   if_ends [] all next stops = tt
-  if_ends (x ∷ xs) all next stops =
-      ((32, refl, refl), word_space words.If (list_pieces write comma x xs) next
-      ((fits_list write comma P each x xs all.0 all.1).stand next stops))
+  if_ends (x ∷ xs) all next stops = (
+    (32, refl, refl),
+    word_space words.If (list_pieces write comma x xs) next
+        ((fits_list write comma P each x xs all.0 all.1).stand next stops),
+  )
 
 -- ---- lines and steps
 
@@ -164,9 +167,10 @@ pub answer_ends : (file : File) (format : Format) (goal : Goal) → HasNames fil
 answer_ends file format goal names are (answer.Proved conditions) parts next stops =
     let P : Term → Type 0 = IsAnswerTerm file goal in
     let each : (t : Term) → P t → Fits (written_condition file t).pieces =
-    λ t is. fits_not_zero (written file t).pieces (fits_answer_term file goal names t is) in
-    ((refl, if_stop (written_condition file) P each conditions next stops),
-    if_ends (written_condition file) P each conditions (recursion_from_All P conditions parts) next stops)
+    λ t is. fits_not_zero (written file t).pieces (fits_answer_term file goal names t is) in (
+      (refl, if_stop (written_condition file) P each conditions next stops),
+      if_ends (written_condition file) P each conditions (recursion_from_All P conditions parts) next stops,
+    )
 answer_ends file format goal names are (answer.Certified constants cert) parts next stops =
     let each : (c : ℤ) → IsNumeral c → Fits (written_constant c).pieces =
     λ c is. fits_not_zero (integer c ∷ []) (fits_integer c is) in

@@ -1,5 +1,5 @@
 -- Each line of the canonical text of a file with its answers is whole.
-use Rattle.std.proofs.Common.{◌≡◌, ◌≢◌, ◌≤◌, ℕ, ◌+◌, List, [], ◌∷◌, ◌++◌, map, length, Option, Some, None, refl, sym, ap, ◌∙◌, subst, arith}
+use Rattle.std.proofs.Common.{◌≡◌, ◌≤◌, ℕ, ◌+◌, List, [], ◌∷◌, ◌++◌, map, Option, Some, None, refl, sym, ap, ◌∙◌, subst, arith}
 use Rattle.std.specs.List.{AllByRecursion}
 use Rattle.std.specs.Option.{IfSome, option_or}
 use Rattle.std.proofs.lemmas.List.Elements.{recursion_from_All}
@@ -181,10 +181,11 @@ statement_whole file answers valid printable format (statement.Vars first count)
     (plain_whole file valid (statement.Vars first count) is, tt)
 statement_whole file answers valid printable format (statement.Hyp h) is =
     (plain_whole file valid (statement.Hyp h) is, tt)
-statement_whole file answers valid printable format (statement.Goal i) is =
-    (plain_whole file valid (statement.Goal i) is,
-    answer_whole file (has_names file valid) (goal_at file i) (goal_has file i valid is) format (answer_at answers i)
-    (printable.each i is))
+statement_whole file answers valid printable format (statement.Goal i) is = (
+  plain_whole file valid (statement.Goal i) is,
+  answer_whole file (has_names file valid) (goal_at file i) (goal_has file i valid is) format (answer_at answers i)
+      (printable.each i is),
+)
 
 -- ---- parentheses
 

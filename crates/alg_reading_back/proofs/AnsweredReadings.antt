@@ -1,5 +1,5 @@
 -- The canonical text of a file with its answers reads as the file with its answers, where its lines are whole.
-use Rattle.std.proofs.Common.{◌≡◌, inl, ℕ, ◌+◌, List, [], ◌∷◌, ◌++◌, length, take, Option, Ok, refl, sym, ap, ◌∙◌, subst, append_assoc, append-nil}
+use Rattle.std.proofs.Common.{◌≡◌, inl, ℕ, ◌+◌, List, [], ◌∷◌, ◌++◌, take, Option, Ok, refl, sym, ap, ◌∙◌, subst, append_assoc, append-nil}
 use Rattle.std.specs.List.{AllByRecursion}
 use Rattle.std.specs.Str.{IsUtf8}
 use Rattle.alg_lines.specs.declared.answer.Answer.{Answer}
@@ -15,14 +15,13 @@ use Rattle.alg_reader.specs.declared.place.Place.TheVariants as places
 use Rattle.alg_typing.specs.Reading.{no_statements}
 use Rattle.alg_typing.specs.Ways.{Reads}
 use Rattle.alg_annotated.specs.Reading.{SoFar, annotated_of, annotated_way, nothing_yet, IsAnnotatedReadingOf}
-use Rattle.alg_printer.specs.Text.{IsStatementOf}
 use Rattle.alg_reading_back.specs.ReadingAnswers.{CanBePrinted}
 use Rattle.alg_reading_back.proofs.ClosedFronts.{IsClosedBy, nothing_closed, closed_next}
 use Rattle.alg_reading_back.proofs.FilesAnswered.{so_far, IsThere, declaration_taken, goal_taken}
 use Rattle.alg_reading_back.proofs.FilesBack.{all_of, take_no, whole_front, empty_front}
 use Rattle.alg_reading_back.proofs.FileTokens.{statement_of}
 use Rattle.alg_reading_back.proofs.FrontTables.{AreHypsNamed, nothing_named, named_next}
-use Rattle.alg_reading_back.proofs.Fronts.{front, goals_in}
+use Rattle.alg_reading_back.proofs.Fronts.{goals_in}
 use Rattle.alg_reading_back.proofs.LinesRead.{AreTaken, taken_append, lines_read}
 use Rattle.alg_reading_back.proofs.LineTokens.{IsLine, lines_split, lines_stand, lines_there}
 use Rattle.alg_reading_back.proofs.PiecesAt.{PiecesAt, pieces_at_left, pieces_at_right}
@@ -121,7 +120,7 @@ module _ (law : CutFromAnywhere) (file : File) (answers : List (Option Answer)) 
   nothing_there : so_far file answers [] places.Start ≡ nothing_yet
   nothing_there =
       ap (λ f. record { file = f; answers = take (goals_in []) answers; place = places.Start }) (empty_front file)
-      ∙ ap (λ as. record { file = no_statements; answers = as; place = places.Start }) (take_no answers)
+      ∙ ap (λ xs. record { file = no_statements; answers = xs; place = places.Start }) (take_no answers)
 
   all_answers : take (goals_in file.order) answers ≡ answers
   all_answers =
@@ -131,7 +130,7 @@ module _ (law : CutFromAnywhere) (file : File) (answers : List (Option Answer)) 
   all_there : (q : Place) → annotated_of (so_far file answers file.order q) ≡ record { file = file; answers = answers }
   all_there q =
       ap (λ f. record { file = f; answers = take (goals_in file.order) answers }) (whole_front file can.valid)
-      ∙ ap (λ as. record { file = file; answers = as }) all_answers
+      ∙ ap (λ xs. record { file = file; answers = xs }) all_answers
 
   pub answered_back : IsAnnotatedReadingOf text (Ok (record { file = file; answers = answers }))
   answered_back =
@@ -140,6 +139,9 @@ module _ (law : CutFromAnywhere) (file : File) (answers : List (Option Answer)) 
       let utf8 = subst IsUtf8 same (pieces_utf8 (lines_pieces lines) [] (lines_stand lines are [])) in
       let read = lines_read (annotated_way text) law text lines are same (so_far file answers [] places.Start)
       (so_far file answers file.order q) taken in
-      inl (utf8, subst (λ a. Reads (annotated_way text) text 0 nothing_yet (Ok a)) (all_there q)
-      (subst (λ s. Reads (annotated_way text) text 0 s (Ok (annotated_of (so_far file answers file.order q))))
-      nothing_there read))
+      inl (
+        utf8,
+        subst (λ a. Reads (annotated_way text) text 0 nothing_yet (Ok a)) (all_there q)
+            (subst (λ s. Reads (annotated_way text) text 0 s (Ok (annotated_of (so_far file answers file.order q))))
+            nothing_there read),
+      )

@@ -1,7 +1,7 @@
 -- The lines of an answer are taken behind its goal: they have no faults there, and lead to the answer.
-use Rattle.std.proofs.Common.{◌≡◌, ◌<◌, ◌⊎◌, inl, inr, ℕ, ◌+◌, List, [], ◌∷◌, ◌++◌, map, length, Option, Some, None, ℤ, refl, sym, ap, ◌∙◌, subst, append_assoc, append-nil}
+use Rattle.std.proofs.Common.{◌≡◌, ◌<◌, inl, ℕ, ◌+◌, List, [], ◌∷◌, ◌++◌, map, length, Option, Some, None, refl, sym, ap, ◌∙◌, subst}
 use Rattle.std.specs.List.{AllByRecursion}
-use Rattle.std.specs.Option.{option_or, option_map, IfSome}
+use Rattle.std.specs.Option.{IfSome}
 use Rattle.std.proofs.lemmas.List.Elements.{recursion_from_All}
 use Rattle.alg_lines.specs.declared.answer.Answer.{Answer}
 use Rattle.alg_lines.specs.declared.answer.Answer.TheVariants as answer
@@ -12,52 +12,32 @@ use Rattle.alg_terms.specs.declared.file.File.{File}
 use Rattle.alg_terms.specs.declared.goals.Goal.{Goal}
 use Rattle.alg_terms.specs.declared.term.Atom.{Atom}
 use Rattle.alg_terms.specs.Valid.{names_of}
-use Rattle.alg_tokens.specs.Codes.{fault_at}
-use Rattle.alg_tokens.specs.declared.code.Code.TheVariants as code
-use Rattle.alg_tokens.specs.declared.token.Refusal.{Refusal}
-use Rattle.alg_tokens.specs.declared.token.Token.{Token}
-use Rattle.alg_tokens.specs.Laws.{width, tokens_of}
+use Rattle.alg_tokens.specs.Laws.{width}
 use Rattle.alg_reader.specs.declared.format.Format.{Format}
 use Rattle.alg_reader.specs.declared.format.Format.TheVariants as formats
 use Rattle.alg_reader.specs.declared.place.Place.{Place}
 use Rattle.alg_reader.specs.declared.place.Place.TheVariants as places
-use Rattle.alg_reader.specs.declared.raw.RawKind.{RawKind}
 use Rattle.alg_reader.specs.declared.raw.RawKind.TheVariants as raws
-use Rattle.alg_reader.specs.declared.reading.Raw.{Raw}
-use Rattle.alg_reader.specs.Forms as rules
-use Rattle.alg_reader.specs.Forms.{rule}
-use Rattle.alg_reader.specs.Grammar.{said_at}
-use Rattle.alg_reader.specs.TermMeaning.{Value}
-use Rattle.alg_typing.specs.Faults.{first_of}
 use Rattle.alg_typing.proofs.FreshNames.{AreDistinct}
 use Rattle.alg_typing.proofs.Growing.{Grows}
-use Rattle.alg_annotated.specs.Monomials.{mono_faults}
-use Rattle.alg_annotated.specs.Names.{statement_names}
-use Rattle.alg_annotated.specs.Places.{lines_of, place_behind_answer, steps_of}
-use Rattle.alg_annotated.specs.Reading.{SoFar, first_fault, with_statement, annotated_way}
-use Rattle.alg_annotated.specs.Resolved.{answer_of, with_part, with_line, with_step}
-use Rattle.alg_annotated.specs.Rules.{last_goal, answer_faults, count_fault, statement_faults}
+use Rattle.alg_annotated.specs.Places.{lines_of, place_behind_answer}
+use Rattle.alg_annotated.specs.Reading.{SoFar, with_statement, annotated_way}
+use Rattle.alg_annotated.specs.Resolved.{answer_of}
+use Rattle.alg_annotated.specs.Rules.{last_goal, answer_faults}
 use Rattle.alg_annotated.proofs.Lasts.{with_last-append}
 use Rattle.alg_printer.specs.Printable.{IsLineOver, IsPrintable, IsStepOver}
 use Rattle.alg_printer.proofs.Leaves.{AreAtoms}
 use Rattle.alg_reading_back.specs.ReadingAnswers.{terms_of}
 use Rattle.alg_reading_back.proofs.AnswersBack.{IsTermThere, opened, answer_back, answer_faultless}
-use Rattle.alg_reading_back.proofs.AtomNumbers.{goal_once}
 use Rattle.alg_reading_back.proofs.Closed.{IsClosed}
 use Rattle.alg_reading_back.proofs.DerivedAnswers.{answer_derived}
-use Rattle.alg_reading_back.proofs.DerivedForms.{IsDerived}
-use Rattle.alg_reading_back.proofs.DerivedLines.{line_derived, step_derived}
 use Rattle.alg_reading_back.proofs.LinesRead.{AreTaken, raw_of, taken_append}
 use Rattle.alg_reading_back.proofs.LineTokens.{lines_split}
-use Rattle.alg_reading_back.proofs.PartsBack.{line_back, step_back}
 use Rattle.alg_reading_back.proofs.PiecesAt.{PiecesAt, pieces_at_left, pieces_at_right}
-use Rattle.alg_reading_back.proofs.PlacedStatements.{lines_place, steps_place, said_statement, line_said, first_step_said, step_said}
+use Rattle.alg_reading_back.proofs.PlacedStatements.{lines_place, said_statement}
 use Rattle.alg_reading_back.proofs.SpelledStatements.{line_pieces}
 use Rattle.alg_reading_back.proofs.WrittenAnswers.{answer_raw, version_raw, written_line, written_step}
 use Rattle.alg_reading_back.proofs.WrittenLines.{WrittenLine, indented, lines_pieces, written_answer, part_lines, answer_lines}
-use Rattle.alg_reading_back.proofs.WrittenLists.{Written}
-use Rattle.alg_reading_back.proofs.WrittenStatements.{dot}
-use Rattle.alg_reading_back.proofs.WrittenTerms.{line_feed}
 use Rattle.alg_reading_back.proofs.PartsTaken.{answered, clear_fault, indented_there, lines_taken, steps_taken}
 
 -- the lines behind a version
@@ -125,7 +105,7 @@ module _ (file g : File) (text : List ℕ) (distinct : AreDistinct (names_of g))
       let next = answered g given (Some (opened said)) (place_of_said said) in
       let found : Option Answer → Option Answer = λ before. Some (answer_of g text (goal_atoms g (last_goal g)) raw) in
       let same : with_statement now text (raws.Answer raw) ≡ next =
-      ap (λ as. record { file = g; answers = as; place = place_behind_answer raw })
+      ap (λ xs. record { file = g; answers = xs; place = place_behind_answer raw })
       (with_last-append found given None
       ∙ ap (λ h. given ++ Some (answer_of g text (goal_atoms g h) raw) ∷ []) last
       ∙ ap (λ a. given ++ Some a ∷ []) back.same)

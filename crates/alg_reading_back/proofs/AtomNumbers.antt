@@ -1,5 +1,5 @@
 -- The numbers of the atoms of a table: each stands there once, so the number of the atom of a number is that number.
-use Rattle.std.proofs.Common.{◌≡◌, ◌<◌, ℕ, ◌+◌, zero, suc, Bool, true, false, not, cond, nat_le, nat_lt, List, [], ◌∷◌, filter, length, refl, sym, ap, ◌∙◌, subst, arith, if◌then◌else◌}
+use Rattle.std.proofs.Common.{◌≡◌, ◌<◌, ℕ, ◌+◌, zero, suc, Bool, true, false, not, cond, nat_le, nat_lt, List, [], ◌∷◌, filter, length, refl, sym, ap, ◌∙◌, arith, if◌then◌else◌}
 use Rattle.std.specs.List.{AllByRecursion}
 use Rattle.std.specs.Prelude.{is_some, position, Some, None}
 use Rattle.std.proofs.lemmas.Bool.Decides.{nat_tests}
@@ -54,9 +54,10 @@ filtered_pass a (b ∷ atoms) =
 
 once_each : (atoms : List Atom) → AreOnce (each_once atom_eq atoms)
 once_each [] = tt
-once_each (a ∷ atoms) =
-    (filtered_pass a (each_once atom_eq atoms),
-    once_filtered (λ b. not (atom_eq a b)) (each_once atom_eq atoms) (once_each atoms))
+once_each (a ∷ atoms) = (
+  filtered_pass a (each_once atom_eq atoms),
+  once_filtered (λ b. not (atom_eq a b)) (each_once atom_eq atoms) (once_each atoms),
+)
 
 some_once : (few : Bool) (atoms : List Atom) → AreOnce atoms → AreOnce (if few then atoms else [])
 some_once true atoms once = once

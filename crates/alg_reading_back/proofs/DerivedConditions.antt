@@ -1,40 +1,30 @@
 -- The grammar derives the canonical text of conditions and constants, as what they say.
-use Rattle.std.proofs.Common.{◌≡◌, ℕ, ◌+◌, List, [], ◌∷◌, ◌++◌, Option, Some, None, pos, ℤ, length, decimal, refl, ap, subst}
+use Rattle.std.proofs.Common.{◌≡◌, ℕ, ◌+◌, List, [], ◌∷◌, pos, ℤ, length, refl, ap}
 use Rattle.std.specs.Fmt.{signed_decimal}
-use Rattle.alg_lines.specs.declared.answer.Answer.{Answer}
-use Rattle.alg_lines.specs.declared.answer.Answer.TheVariants as answer
-use Rattle.alg_mono.specs.Mono.{Monomial}
 use Rattle.alg_terms.specs.declared.file.File.{File}
-use Rattle.alg_terms.specs.declared.term.Atom.{Atom}
 use Rattle.alg_terms.specs.declared.term.Term.{Term}
 use Rattle.alg_tokens.specs.declared.token.Sign.{Sign}
 use Rattle.alg_tokens.specs.declared.token.Sign.TheVariants as signs
-use Rattle.alg_tokens.specs.declared.token.Token.{Token}
 use Rattle.alg_tokens.specs.declared.token.TokenKind.TheVariants as kinds
 use Rattle.alg_tokens.specs.declared.token.Word.{Word}
 use Rattle.alg_tokens.specs.declared.token.Word.TheVariants as words
 use Rattle.alg_tokens.specs.Laws.{width, tokens_of}
 use Rattle.alg_tokens.specs.Pieces.{Piece}
 use Rattle.alg_tokens.specs.Spelling.{spelling, sign_spelling}
-use Rattle.alg_reader.specs.AnswerMeaning.{constants_of, numeral_in, term_in}
-use Rattle.alg_reader.specs.declared.format.Format.{Format}
-use Rattle.alg_reader.specs.declared.format.Format.TheVariants as formats
-use Rattle.alg_reader.specs.declared.raw.RawAnswer.TheVariants as answers
+use Rattle.alg_reader.specs.AnswerMeaning.{constants_of, numeral_in}
 use Rattle.alg_reader.specs.Forms as rules
-use Rattle.alg_reader.specs.Forms.{Form, seq, a, rule}
+use Rattle.alg_reader.specs.Forms.{Form, seq, rule}
 use Rattle.alg_reader.specs.Grammar as forms
-use Rattle.alg_reader.specs.Grammar.{grammar, number, option, answer_or, body, constants}
+use Rattle.alg_reader.specs.Grammar.{grammar, number, constants}
 use Rattle.alg_reader.specs.Meaning.{act}
 use Rattle.alg_reader.specs.TermMeaning.{Value, one, two, nothing, term}
-use Rattle.alg_reader.specs.TermMeaning as values
-use Rattle.alg_reading_back.proofs.DerivedForms.{IsDerived, token_at, one_token, both, first_way, other_way, given, left_out, by_rule, term_means, token_before, pieces_before, front_before}
+use Rattle.alg_reading_back.proofs.DerivedForms.{IsDerived, token_at, one_token, both, given, left_out, by_rule, term_means, token_before, pieces_before, front_before}
 use Rattle.alg_reading_back.proofs.DerivedLists.{list_derived}
-use Rattle.alg_reading_back.proofs.DerivedMonos.{number_derived, integer_derived, mono_derived}
+use Rattle.alg_reading_back.proofs.DerivedMonos.{number_derived}
 use Rattle.alg_reading_back.proofs.DerivedStatements.{word_at, zero_at}
 use Rattle.alg_reading_back.proofs.DerivedTerms.{sign_at, term_derived}
-use Rattle.alg_reading_back.proofs.WrittenAnswers.{not_zero, written_condition, written_constant, if_pieces, version_raw, power_front, power_place, answer_pieces, answer_raw}
+use Rattle.alg_reading_back.proofs.WrittenAnswers.{not_zero, written_condition, written_constant, if_pieces}
 use Rattle.alg_reading_back.proofs.WrittenLists.{comma, list_pieces, all_raw}
-use Rattle.alg_reading_back.proofs.WrittenMonos.{written_mono, written_integer}
 use Rattle.alg_reading_back.proofs.WrittenTerms.{written, space, sign, word, numeral, integer}
 
 -- a word and a space before pieces, a sign before pieces, and a numeral before pieces

@@ -1,6 +1,6 @@
 -- The grammar derives the canonical text of lines and steps, as the raw lines and steps that they are, and each line of
 -- a text as a statement of its place.
-use Rattle.std.proofs.Common.{◌≡◌, ℕ, ◌+◌, List, [], ◌∷◌, ◌++◌, true, false, cond, Option, Some, None, pos, ℤ, length, decimal, refl, sym, ap, ◌∙◌, subst}
+use Rattle.std.proofs.Common.{◌≡◌, ℕ, ◌+◌, List, [], ◌∷◌, ◌++◌, true, false, cond, Option, Some, None, pos, ℤ, length, decimal, refl, subst}
 use Rattle.std.specs.Fmt.{signed_decimal}
 use Rattle.std.specs.Ordering.{int_eq}
 use Rattle.std.specs.Prelude.{unwrap_or}
@@ -14,13 +14,12 @@ use Rattle.alg_tokens.specs.declared.token.TokenKind.TheVariants as kinds
 use Rattle.alg_tokens.specs.declared.token.Word.TheVariants as words
 use Rattle.alg_tokens.specs.Laws.{width, tokens_of}
 use Rattle.alg_reader.specs.AnswerMeaning.{cofactor_of}
-use Rattle.alg_reader.specs.declared.certificates.Combined.{Combined}
 use Rattle.alg_reader.specs.declared.format.Format.{Format}
 use Rattle.alg_reader.specs.declared.format.Format.TheVariants as formats
 use Rattle.alg_reader.specs.declared.raw.RawMono.{RawMono}
 use Rattle.alg_reader.specs.declared.raw.RawNumber.{RawNumber}
 use Rattle.alg_reader.specs.Forms as rules
-use Rattle.alg_reader.specs.Forms.{seq, a, rule}
+use Rattle.alg_reader.specs.Forms.{seq, rule}
 use Rattle.alg_reader.specs.Grammar as forms
 use Rattle.alg_reader.specs.Grammar.{grammar, number, option, cofactor, divisor}
 use Rattle.alg_reader.specs.Meaning.{act, kind_value}

@@ -1,5 +1,5 @@
 -- The grammar derives the canonical text of monomials and integers, as what they say.
-use Rattle.std.proofs.Common.{◌≡◌, ℕ, ◌+◌, List, [], ◌∷◌, ◌++◌, true, false, cond, nat_lt, Option, Some, None, pos, negsuc, suc, ℤ, length, decimal, refl, sym, ap, ◌∙◌, subst}
+use Rattle.std.proofs.Common.{◌≡◌, ℕ, ◌+◌, List, [], ◌∷◌, ◌++◌, true, false, cond, nat_lt, Some, None, pos, negsuc, suc, ℤ, length, decimal, refl, subst}
 use Rattle.std.specs.Fmt.{signed_decimal}
 use Rattle.alg_mono.specs.Mono.{Monomial}
 use Rattle.alg_terms.specs.declared.file.File.{File}
@@ -7,7 +7,7 @@ use Rattle.alg_terms.specs.declared.term.Atom.{Atom}
 use Rattle.alg_tokens.specs.declared.token.Sign.TheVariants as signs
 use Rattle.alg_tokens.specs.declared.token.TokenKind.TheVariants as kinds
 use Rattle.alg_tokens.specs.Laws.{width, tokens_of}
-use Rattle.alg_reader.specs.AnswerMeaning.{after, factor_in}
+use Rattle.alg_reader.specs.AnswerMeaning.{factor_in}
 use Rattle.alg_reader.specs.Forms as rules
 use Rattle.alg_reader.specs.Forms.{rule}
 use Rattle.alg_reader.specs.Grammar as forms
@@ -23,7 +23,7 @@ use Rattle.alg_reading_back.proofs.DerivedLists.{list_derived}
 use Rattle.alg_reading_back.proofs.DerivedStatements.{name_at}
 use Rattle.alg_reading_back.proofs.DerivedTerms.{sign_at}
 use Rattle.alg_reading_back.proofs.ReadAt.{numeral_tree}
-use Rattle.alg_reading_back.proofs.WrittenLists.{star, later_pieces, list_pieces, all_raw}
+use Rattle.alg_reading_back.proofs.WrittenLists.{star}
 use Rattle.alg_reading_back.proofs.WrittenMethods.{path_pieces}
 use Rattle.alg_reading_back.proofs.WrittenMonos.{atom_raw, exponent_pieces, exponent_raw, atom_pieces, written_factor, written_factors, written_mono, written_integer}
 use Rattle.alg_reading_back.proofs.WrittenTerms.{sign, numeral}

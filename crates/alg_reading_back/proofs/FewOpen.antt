@@ -1,5 +1,5 @@
 -- Where few parentheses are open in a text, few are open in each of its parts.
-use Rattle.std.proofs.Common.{◌≤◌, ◌==◌, ℕ, ◌+◌, ◌-◌, true, false, cond, max, List, [], ◌∷◌, ◌++◌, refl, subst, arith}
+use Rattle.std.proofs.Common.{◌≤◌, ◌==◌, ℕ, ◌+◌, ◌-◌, true, false, cond, List, [], ◌∷◌, ◌++◌, refl, subst, arith}
 use Rattle.alg_terms.specs.Limits.{MAX_OPEN}
 use Rattle.alg_tokens.specs.Laws.{tokens_of}
 use Rattle.alg_tokens.specs.Pieces.{Piece}

@@ -1,5 +1,5 @@
 -- The lines of a file with its answers are taken one after the other, each behind the front of the file before it.
-use Rattle.std.proofs.Common.{◌≡◌, ◌<◌, ◌≤◌, ℕ, ◌+◌, List, [], ◌∷◌, ◌++◌, map, flat_map, length, take, Option, Some, None, refl, sym, ap, ◌∙◌, subst, arith, append_assoc, append-nil}
+use Rattle.std.proofs.Common.{◌≡◌, ◌<◌, ℕ, ◌+◌, List, [], ◌∷◌, ◌++◌, flat_map, length, take, Option, Some, None, refl, sym, ap, ◌∙◌, subst, arith}
 use Rattle.std.specs.Prelude.{All}
 use Rattle.std.specs.List.{AllByRecursion}
 use Rattle.std.specs.Option.{IfSome}
@@ -16,7 +16,6 @@ use Rattle.alg_terms.specs.Members.{goal_at, no_goal}
 use Rattle.alg_terms.specs.Nodes.{fold_term}
 use Rattle.alg_terms.specs.Occurring.{node_vars, node_homs}
 use Rattle.alg_terms.specs.Order.{declared_by, declared_by_all}
-use Rattle.alg_terms.specs.Valid.{IsValid}
 use Rattle.alg_tokens.specs.Laws.{width, tokens_of}
 use Rattle.alg_reader.specs.declared.format.Format.{Format}
 use Rattle.alg_reader.specs.declared.place.Place.{Place}
@@ -39,11 +38,10 @@ use Rattle.alg_reading_back.proofs.PartsTaken.{clear_fault}
 use Rattle.alg_reading_back.proofs.Closed.{IsClosed}
 use Rattle.alg_reading_back.proofs.ClosedFronts.{IsClosedBy, closed_next, front_closed, sort_low}
 use Rattle.alg_reading_back.proofs.FrontNames.{front_distinct}
-use Rattle.alg_reading_back.proofs.FrontTables.{AreHypsNamed, named_next, grows_on, atoms_there, goal_is_last, table_there}
+use Rattle.alg_reading_back.proofs.FrontTables.{AreHypsNamed, grows_on, atoms_there, goal_is_last, table_there}
 use Rattle.alg_reading_back.proofs.Fronts.{Continues, front, goals_in, grows, next}
 use Rattle.alg_reading_back.proofs.GoalsBack.{range}
-use Rattle.alg_reading_back.proofs.LinesRead.{AreTaken, raw_of, taken_append}
-use Rattle.alg_reading_back.proofs.LineTokens.{lines_split}
+use Rattle.alg_reading_back.proofs.LinesRead.{AreTaken, raw_of}
 use Rattle.alg_reading_back.proofs.NextLists.{next_item, same_list}
 use Rattle.alg_reading_back.proofs.PiecesAt.{PiecesAt, pieces_at_left, pieces_at_right}
 use Rattle.alg_reading_back.proofs.PlacedStatements.{statement_placed}
@@ -54,7 +52,7 @@ use Rattle.alg_reading_back.proofs.StatementsTaken.{statement_taken}
 use Rattle.alg_reading_back.proofs.Steps.{count_with}
 use Rattle.alg_reading_back.proofs.Taken.{IsTaken}
 use Rattle.alg_reading_back.proofs.UsedBefore.{vars_low, homs_low}
-use Rattle.alg_reading_back.proofs.WrittenLines.{WrittenLine, plain_line, lines_pieces, answer_lines, statement_lines, file_lines}
+use Rattle.alg_reading_back.proofs.WrittenLines.{WrittenLine, plain_line, lines_pieces, answer_lines, statement_lines}
 use Rattle.alg_reading_back.proofs.WrittenStatements.{written_goal, written_statement}
 use Rattle.alg_reading_back.proofs.WrittenTerms.{line_feed}
 
@@ -135,10 +133,10 @@ module _ (file : File) (answers : List (Option Answer)) (can : CanBePrinted file
         let line = plain_line (written_statement file s) in
         let now = so_far file answers before p in
         let same : with_statement now text kind
-            ≡ record { file = front file (before ++ s ∷ []); answers = added; place = place_behind p kind } =
+        ≡ record { file = front file (before ++ s ∷ []); answers = added; place = place_behind p kind } =
         ap (λ f. record { file = f; answers = answers_with g text kind now.answers; place = place_behind p kind })
         taken.extends
-        ∙ ap (λ as. record { file = front file (before ++ s ∷ []); answers = as; place = place_behind p kind }) adds in (
+        ∙ ap (λ xs. record { file = front file (before ++ s ∷ []); answers = xs; place = place_behind p kind }) adds in (
           statement_placed p (tokens_of at (written_statement file s).pieces) kind
               (statement_derived file can.valid s there.is at),
           clear_fault g text (raw_of line at) refl (same_names file s g text at ∙ taken.names)
@@ -254,6 +252,6 @@ module _ (file : File) (answers : List (Option Answer)) (can : CanBePrinted file
         (next file can.valid.ordered before after s there.split).goals in
         let item = next_item (λ s. (declared_by s).goals) answers None before s i continues refl in
         let end = so_far file answers further q in
-        let whole = subst (λ as. IsWay (record { file = g; answers = given ++ None ∷ []; place = places.AfterGoal }) start
-        others (record { file = g; answers = as; place = q })) item.items later in
+        let whole = subst (λ xs. IsWay (record { file = g; answers = given ++ None ∷ []; place = places.AfterGoal }) start
+        others (record { file = g; answers = xs; place = q })) item.items later in
         (q, line_taken before after s at there p others (given ++ None ∷ []) end refl whole)

@@ -1,23 +1,18 @@
 -- The lines of the text in format 1 are whole, and few parentheses are open in them, as in those of format 2.
-use Rattle.std.proofs.Common.{◌≡◌, ◌≤◌, ℕ, true, false, cond, List, [], ◌∷◌, ◌++◌, map, Option, Some, None, refl, sym, subst, arith, ℤ, pos}
+use Rattle.std.proofs.Common.{ℕ, List, [], ◌∷◌, ◌++◌, map, Option, Some, None, ℤ, pos}
 use Rattle.std.specs.List.{AllByRecursion}
-use Rattle.std.specs.Ordering.{int_eq}
 use Rattle.std.proofs.lemmas.List.Elements.{recursion_from_All}
 use Rattle.alg_lines.specs.declared.answer.Answer.{Answer}
 use Rattle.alg_lines.specs.declared.answer.Answer.TheVariants as answer
 use Rattle.alg_lines.specs.declared.cert.GoalStep.{GoalStep}
 use Rattle.alg_lines.specs.declared.cert.Line.{Line}
-use Rattle.alg_mono.specs.Mono.{Monomial}
 use Rattle.alg_reify.specs.Table.{goal_atoms}
 use Rattle.alg_terms.specs.declared.file.File.{File}
 use Rattle.alg_terms.specs.declared.file.Statement.{Statement}
 use Rattle.alg_terms.specs.declared.file.Statement.TheVariants as statement
 use Rattle.alg_terms.specs.declared.goals.Goal.{Goal}
 use Rattle.alg_terms.specs.declared.term.Atom.{Atom}
-use Rattle.alg_terms.specs.Limits.{MAX_OPEN}
 use Rattle.alg_terms.specs.Members.{goal_at}
-use Rattle.alg_tokens.specs.declared.token.Sign.TheVariants as signs
-use Rattle.alg_tokens.specs.declared.token.Word.TheVariants as words
 use Rattle.alg_tokens.specs.Pieces.{Piece}
 use Rattle.alg_reader.specs.declared.format.Format.{Format}
 use Rattle.alg_reader.specs.declared.format.Format.TheVariants as formats
@@ -26,13 +21,12 @@ use Rattle.alg_printer.specs.Text.{answer_at, IsStatementOf}
 use Rattle.alg_printer.proofs.Declared.{statements_are_of}
 use Rattle.alg_reading_back.specs.ReadingAnswers.{CanBePrinted}
 use Rattle.alg_reading_back.proofs.AnsweredLines.{lines_are, statement_whole}
-use Rattle.alg_reading_back.proofs.FewPieces.{OpenFew, few_at, few_from, few_left, few_right, few_both, open_behind, Closes, closes_both, closes_mono, closes_integer}
+use Rattle.alg_reading_back.proofs.FewPieces.{OpenFew, few_at, few_from, few_left, Closes, closes_both}
 use Rattle.alg_reading_back.proofs.LineTokens.{IsLine, IsWhole}
-use Rattle.alg_reading_back.proofs.WrittenAnswers.{if_pieces, power_front, answer_pieces, cofactor_pieces, divisor_pieces, over_pieces, written_combined, written_constant, written_line, written_step}
+use Rattle.alg_reading_back.proofs.WrittenAnswers.{if_pieces, power_front, cofactor_pieces, written_constant, written_line, written_step}
 use Rattle.alg_reading_back.proofs.WrittenLines.{WrittenLine, indented, written_answer, part_lines, answer_lines, statement_lines, file_lines}
-use Rattle.alg_reading_back.proofs.WrittenMonos.{written_mono, written_integer}
 use Rattle.alg_reading_back.proofs.WrittenStatements.{dot}
-use Rattle.alg_reading_back.proofs.WrittenTerms.{space, sign, word, numeral, integer}
+use Rattle.alg_reading_back.proofs.WrittenTerms.{space, numeral}
 use Rattle.alg_reading_back.proofs.FormatOneParts.{none_open, closes_cofactor, few_before, closes_combined, line_one, step_one}
 
 module _ (file : File) (atoms : List Atom) where

@@ -1,38 +1,20 @@
 -- Few parentheses are open in the lines and steps of certificates in format 1, as in those in format 2.
-use Rattle.std.proofs.Common.{◌≡◌, ◌≤◌, ℕ, true, false, cond, List, [], ◌∷◌, ◌++◌, map, Option, Some, None, refl, sym, subst, arith, ℤ, pos}
-use Rattle.std.specs.List.{AllByRecursion}
+use Rattle.std.proofs.Common.{◌≡◌, ◌≤◌, ℕ, true, false, cond, List, [], ◌∷◌, ◌++◌, refl, sym, subst, arith, ℤ, pos}
 use Rattle.std.specs.Ordering.{int_eq}
-use Rattle.std.proofs.lemmas.List.Elements.{recursion_from_All}
-use Rattle.alg_lines.specs.declared.answer.Answer.{Answer}
-use Rattle.alg_lines.specs.declared.answer.Answer.TheVariants as answer
 use Rattle.alg_lines.specs.declared.cert.GoalStep.{GoalStep}
 use Rattle.alg_lines.specs.declared.cert.Line.{Line}
 use Rattle.alg_mono.specs.Mono.{Monomial}
-use Rattle.alg_reify.specs.Table.{goal_atoms}
 use Rattle.alg_terms.specs.declared.file.File.{File}
-use Rattle.alg_terms.specs.declared.file.Statement.{Statement}
-use Rattle.alg_terms.specs.declared.file.Statement.TheVariants as statement
-use Rattle.alg_terms.specs.declared.goals.Goal.{Goal}
 use Rattle.alg_terms.specs.declared.term.Atom.{Atom}
 use Rattle.alg_terms.specs.Limits.{MAX_OPEN}
-use Rattle.alg_terms.specs.Members.{goal_at}
 use Rattle.alg_tokens.specs.declared.token.Sign.TheVariants as signs
-use Rattle.alg_tokens.specs.declared.token.Word.TheVariants as words
 use Rattle.alg_tokens.specs.Pieces.{Piece}
 use Rattle.alg_reader.specs.declared.format.Format.{Format}
 use Rattle.alg_reader.specs.declared.format.Format.TheVariants as formats
-use Rattle.alg_reader.proofs.Found.{all_append, all_split}
-use Rattle.alg_printer.specs.Text.{answer_at, IsStatementOf}
-use Rattle.alg_printer.proofs.Declared.{statements_are_of}
-use Rattle.alg_reading_back.specs.ReadingAnswers.{CanBePrinted}
-use Rattle.alg_reading_back.proofs.AnsweredLines.{lines_are, statement_whole}
-use Rattle.alg_reading_back.proofs.FewPieces.{OpenFew, few_at, few_from, few_left, few_right, few_both, open_behind, Closes, closes_both, closes_mono, closes_integer}
-use Rattle.alg_reading_back.proofs.LineTokens.{IsLine, IsWhole}
-use Rattle.alg_reading_back.proofs.WrittenAnswers.{if_pieces, power_front, answer_pieces, cofactor_pieces, divisor_pieces, over_pieces, written_combined, written_constant, written_line, written_step}
-use Rattle.alg_reading_back.proofs.WrittenLines.{WrittenLine, indented, written_answer, part_lines, answer_lines, statement_lines, file_lines}
+use Rattle.alg_reading_back.proofs.FewPieces.{OpenFew, few_left, few_right, few_both, open_behind, Closes, closes_both, closes_mono, closes_integer}
+use Rattle.alg_reading_back.proofs.WrittenAnswers.{cofactor_pieces, divisor_pieces, over_pieces, written_combined, written_line, written_step}
 use Rattle.alg_reading_back.proofs.WrittenMonos.{written_mono, written_integer}
-use Rattle.alg_reading_back.proofs.WrittenStatements.{dot}
-use Rattle.alg_reading_back.proofs.WrittenTerms.{space, sign, word, numeral, integer}
+use Rattle.alg_reading_back.proofs.WrittenTerms.{space, sign, numeral}
 
 -- none is open
 pub none_open : 0 ≤ MAX_OPEN
@@ -77,10 +59,15 @@ module _ (file : File) (atoms : List Atom) where
       let last = few_before (cofactor_pieces file formats.One atoms n) (numeral j ∷ over_pieces d)
       (closes_cofactor formats.One n)
       (cofactor_one n (few_left 0 (cofactor_pieces file formats.Two atoms n) end there.1))
-      (none_open, (none_open, (none_open, tt))) in
-      (none_open, (none_open, few_before (written_integer b).pieces
-      (sign signs.Comma ∷ space ∷ (cofactor_pieces file formats.One atoms n ++ (numeral j ∷ over_pieces d)))
-      (closes_integer b) (few_integer b) (none_open, last)))
+      (none_open, (none_open, (none_open, tt))) in (
+        none_open,
+        (
+          none_open,
+          few_before (written_integer b).pieces
+              (sign signs.Comma ∷ space ∷ (cofactor_pieces file formats.One atoms n ++ (numeral j ∷ over_pieces d)))
+              (closes_integer b) (few_integer b) (none_open, last),
+        ),
+      )
 
   pub closes_combined : (format : Format) (first b : ℤ) (n : Monomial) (j : ℕ) (d : ℤ) →
       Closes (written_combined file format atoms first b n j d).pieces
@@ -104,12 +91,20 @@ module _ (file : File) (atoms : List Atom) where
   line_one l few =
       let two = written_combined file formats.Two atoms (pos l.i) l.b l.n l.j l.d in
       let one = written_combined file formats.One atoms (pos l.i) l.b l.n l.j l.d in
-      let there = few.1.1.1 in
-      (none_open, (none_open, (none_open, few_before (cofactor_pieces file formats.One atoms l.m) one.pieces
-      (closes_cofactor formats.One l.m)
-      (cofactor_one l.m (few_left 0 (cofactor_pieces file formats.Two atoms l.m) two.pieces there))
-      (combined_one (pos l.i) l.b l.n l.j l.d
-      (few_behind (cofactor_pieces file formats.Two atoms l.m) two.pieces (closes_cofactor formats.Two l.m) there)))))
+      let there = few.1.1.1 in (
+        none_open,
+        (
+          none_open,
+          (
+            none_open,
+            few_before (cofactor_pieces file formats.One atoms l.m) one.pieces
+                (closes_cofactor formats.One l.m)
+                (cofactor_one l.m (few_left 0 (cofactor_pieces file formats.Two atoms l.m) two.pieces there))
+                (combined_one (pos l.i) l.b l.n l.j l.d
+                (few_behind (cofactor_pieces file formats.Two atoms l.m) two.pieces (closes_cofactor formats.Two l.m) there)),
+          ),
+        ),
+      )
 
   pub step_one : (s : GoalStep) → OpenFew 0 (written_step file formats.Two atoms s).pieces →
       OpenFew 0 (written_step file formats.One atoms s).pieces

@@ -1,6 +1,6 @@
 -- The table of a goal in the front of a file that ends with it is the goal's, and its atoms are of the front.
 use Rattle.std.proofs.Common.{◌≡◌, ◌<◌, ◌≤◌, inl, inr, ℕ, ◌+◌, ◌-◌, true, false, nat_le, List, [], ◌∷◌, ◌++◌, flat_map, length, take, refl, sym, ap, ◌∙◌, subst, arith, if◌then◌else◌, length-append}
-use Rattle.std.specs.Prelude.{Bool, All, slice_index_or}
+use Rattle.std.specs.Prelude.{Bool, slice_index_or}
 use Rattle.std.specs.List.{AllByRecursion}
 use Rattle.std.proofs.lemmas.Bool.{cases_lt}
 use Rattle.std.proofs.lemmas.List.{get_or_default, length-take}
@@ -39,8 +39,12 @@ use Rattle.alg_reading_back.proofs.UsesBack.{IsUseInRange}
 longer : {X : Type 0} (f : Statement → List ℕ) (xs : List X) (before : List Statement) (s : Statement) →
     length (take (length (flat_map f before)) xs) ≤ length (take (length (flat_map f (before ++ s ∷ []))) xs)
 longer f xs before s =
-    omega (arith, length-take (length (flat_map f before)) xs,
-    length-take (length (flat_map f (before ++ s ∷ []))) xs, count_with f before s)
+    omega (
+      arith,
+      length-take (length (flat_map f before)) xs,
+      length-take (length (flat_map f (before ++ s ∷ []))) xs,
+      count_with f before s,
+    )
 
 -- the next front has the members of the front, at the same numbers
 pub grows_on : (file : File) (before : List Statement) (s : Statement) →

@@ -7,7 +7,7 @@ use Rattle.alg_reader.specs.declared.raw.RawKind.TheVariants as raws
 use Rattle.alg_reader.specs.declared.reading.Raw.{Raw}
 use Rattle.alg_reader.specs.Statements.{IsStatement, IsRead}
 use Rattle.alg_typing.specs.Ways.{Way, Reads, GoesOnWith}
-use Rattle.alg_reading_back.proofs.LineTokens.{IsLine, lines_split, next_begin, line_of, line_tokens, lines_stop, line_passed}
+use Rattle.alg_reading_back.proofs.LineTokens.{IsLine, next_begin, line_of, line_tokens, lines_stop, line_passed}
 use Rattle.alg_reading_back.proofs.SpelledStatements.{line_pieces}
 use Rattle.alg_reading_back.proofs.StatementsRead.{read_of}
 use Rattle.alg_reading_back.proofs.WrittenLines.{WrittenLine, lines_pieces}

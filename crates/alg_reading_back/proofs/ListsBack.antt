@@ -1,5 +1,5 @@
 -- What the raw things of a list are, one for each of the list.
-use Rattle.std.proofs.Common.{◌≡◌, ℕ, ◌+◌, List, [], ◌∷◌, ◌++◌, map, flat_map, refl, sym, ap, ◌∙◌, subst, arith}
+use Rattle.std.proofs.Common.{◌≡◌, ℕ, ◌+◌, List, [], ◌∷◌, map, flat_map, refl, ap, ◌∙◌}
 use Rattle.std.specs.List.{AllByRecursion}
 use Rattle.alg_tokens.specs.Laws.{width}
 use Rattle.alg_reading_back.proofs.NamesTaken.{two_empty}

@@ -1,6 +1,5 @@
 -- The pieces of monomials and integers each end where the next begins.
-use Rattle.std.proofs.Common.{◌≤◌, ◌<◌, ◌≤ℤ◌, ◌≡◌, ℕ, true, false, cond, nat_lt, List, [], ◌∷◌, ◌++◌, length, refl, sym, subst, arith, append-nil, ℤ, pos, negsuc, suc}
-use Rattle.std.specs.Prelude.{All}
+use Rattle.std.proofs.Common.{◌≤◌, ◌<◌, ℕ, true, false, cond, nat_lt, List, [], ◌∷◌, ◌++◌, length, refl, sym, subst, arith, append-nil, ℤ, pos, negsuc, suc}
 use Rattle.std.specs.List.{AllByRecursion}
 use Rattle.std.proofs.lemmas.Int.{ints}
 use Rattle.std.proofs.lemmas.List.Elements.{All-get_or, recursion_from_All}
@@ -17,7 +16,7 @@ use Rattle.alg_reading_back.proofs.ListEnds.{fits_list}
 use Rattle.alg_reading_back.proofs.MethodEnds.{fits_path}
 use Rattle.alg_reading_back.proofs.TermEnds.{Fits, HasNames, fits_minus, fits_numeral, fits_tight}
 use Rattle.alg_reading_back.proofs.WrittenLists.{star}
-use Rattle.alg_reading_back.proofs.WrittenMonos.{exponent_pieces, atom_pieces, written_factor, written_mono, written_integer}
+use Rattle.alg_reading_back.proofs.WrittenMonos.{atom_pieces, written_factor, written_mono, written_integer}
 use Rattle.alg_reading_back.proofs.WrittenTerms.{sign, numeral}
 
 -- an entry of a monomial over these atoms

@@ -180,13 +180,13 @@ module _ (file g : File) (text : List ℕ) (distinct : AreDistinct (names_of g))
         let back = path_back atom.path atom.var at of.1 (recursion_from_All (λ f. f < length g.homs) atom.path of.0)
         (pieces_at_left text at (atom_pieces file atom) (exponent_pieces e.1) placed) in
         let spans = names_raised plain exponent ∙ atom_spans file at atom.path bytes in
-        let use = path_raw file at atom.path bytes in
-        let same : factor_atom g text raw ≡ atom = atom_is atom.path atom.var use raw back spans in
+        let used = path_raw file at atom.path bytes in
+        let same : factor_atom g text raw ≡ atom = atom_is atom.path atom.var used raw back spans in
         let number : number_of atoms (factor_atom g text raw) ≡ e.0 =
         ap (number_of atoms) same ∙ number_there atoms once e.0 is.atom in
         let power : exponent_of raw ≡ e.1 = exponent_raised plain exponent ∙ exponent_back there e.1 some in
         record {
-          names = atom_clear atom.path atom.var use raw back spans;
+          names = atom_clear atom.path atom.var used raw back spans;
           found = no_cause _ code.Line (start_of raw)
               (ap (λ a. not (is_some (position (atom_eq a) atoms))) same ∙ atom_found atoms once e.0 is.atom);
           pair = ap (λ n. (n, exponent_of raw)) number ∙ ap (λ n. (e.0, n)) power;

@@ -19,7 +19,7 @@ use Rattle.alg_reader.specs.declared.raw.RawNumber.{RawNumber}
 use Rattle.alg_reader.specs.RawMonos.{mono_one, number_one}
 use Rattle.alg_typing.proofs.FreshNames.{AreDistinct}
 use Rattle.alg_typing.proofs.Growing.{Grows}
-use Rattle.alg_annotated.specs.Monomials.{mono_names, mono_faults, monomial_of}
+use Rattle.alg_annotated.specs.Monomials.{mono_names, mono_faults}
 use Rattle.alg_annotated.specs.Resolved.{line_of, step_of}
 use Rattle.alg_annotated.specs.Rules.{count_fault}
 use Rattle.alg_printer.specs.Printable.{IsLineOver, IsMonomialOver, IsStepOver}

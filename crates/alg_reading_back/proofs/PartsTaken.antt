@@ -1,8 +1,7 @@
 -- The lines and steps of a certificate are taken behind its answer: they have no faults there, and lead to it whole.
-use Rattle.std.proofs.Common.{◌≡◌, ◌<◌, ◌⊎◌, inl, inr, ℕ, ◌+◌, List, [], ◌∷◌, ◌++◌, map, length, Option, Some, None, ℤ, refl, sym, ap, ◌∙◌, subst, append_assoc, append-nil}
+use Rattle.std.proofs.Common.{◌≡◌, ◌⊎◌, inl, inr, ℕ, ◌+◌, List, [], ◌∷◌, ◌++◌, map, Option, Some, None, ℤ, refl, sym, ap, ◌∙◌, subst, append_assoc, append-nil}
 use Rattle.std.specs.List.{AllByRecursion}
-use Rattle.std.specs.Option.{option_or, option_map, IfSome}
-use Rattle.std.proofs.lemmas.List.Elements.{recursion_from_All}
+use Rattle.std.specs.Option.{option_or, option_map}
 use Rattle.alg_lines.specs.declared.answer.Answer.{Answer}
 use Rattle.alg_lines.specs.declared.answer.Answer.TheVariants as answer
 use Rattle.alg_lines.specs.declared.cert.GoalStep.{GoalStep}
@@ -16,11 +15,10 @@ use Rattle.alg_tokens.specs.Codes.{fault_at}
 use Rattle.alg_tokens.specs.declared.code.Code.TheVariants as code
 use Rattle.alg_tokens.specs.declared.token.Refusal.{Refusal}
 use Rattle.alg_tokens.specs.declared.token.Token.{Token}
-use Rattle.alg_tokens.specs.Laws.{width, tokens_of}
+use Rattle.alg_tokens.specs.Laws.{width}
 use Rattle.alg_reader.specs.declared.format.Format.{Format}
 use Rattle.alg_reader.specs.declared.format.Format.TheVariants as formats
 use Rattle.alg_reader.specs.declared.place.Place.{Place}
-use Rattle.alg_reader.specs.declared.place.Place.TheVariants as places
 use Rattle.alg_reader.specs.declared.raw.RawKind.{RawKind}
 use Rattle.alg_reader.specs.declared.raw.RawKind.TheVariants as raws
 use Rattle.alg_reader.specs.declared.reading.Raw.{Raw}
@@ -33,28 +31,23 @@ use Rattle.alg_typing.proofs.FreshNames.{AreDistinct}
 use Rattle.alg_typing.proofs.Growing.{Grows}
 use Rattle.alg_annotated.specs.Monomials.{mono_faults}
 use Rattle.alg_annotated.specs.Names.{statement_names}
-use Rattle.alg_annotated.specs.Places.{lines_of, place_behind_answer, steps_of}
+use Rattle.alg_annotated.specs.Places.{steps_of}
 use Rattle.alg_annotated.specs.Reading.{SoFar, first_fault, with_statement, annotated_way}
-use Rattle.alg_annotated.specs.Resolved.{answer_of, with_part, with_line, with_step}
-use Rattle.alg_annotated.specs.Rules.{last_goal, answer_faults, count_fault, statement_faults}
+use Rattle.alg_annotated.specs.Resolved.{with_part, with_line, with_step}
+use Rattle.alg_annotated.specs.Rules.{last_goal, count_fault, statement_faults}
 use Rattle.alg_annotated.proofs.Lasts.{with_last-append}
-use Rattle.alg_printer.specs.Printable.{IsLineOver, IsPrintable, IsStepOver}
+use Rattle.alg_printer.specs.Printable.{IsLineOver, IsStepOver}
 use Rattle.alg_printer.proofs.Leaves.{AreAtoms}
-use Rattle.alg_reading_back.specs.ReadingAnswers.{terms_of}
-use Rattle.alg_reading_back.proofs.AnswersBack.{IsTermThere, opened, answer_back, answer_faultless}
 use Rattle.alg_reading_back.proofs.AtomNumbers.{goal_once}
-use Rattle.alg_reading_back.proofs.Closed.{IsClosed}
-use Rattle.alg_reading_back.proofs.DerivedAnswers.{answer_derived}
 use Rattle.alg_reading_back.proofs.DerivedForms.{IsDerived}
 use Rattle.alg_reading_back.proofs.DerivedLines.{line_derived, step_derived}
-use Rattle.alg_reading_back.proofs.LinesRead.{AreTaken, raw_of, taken_append}
-use Rattle.alg_reading_back.proofs.LineTokens.{lines_split}
+use Rattle.alg_reading_back.proofs.LinesRead.{AreTaken, raw_of}
 use Rattle.alg_reading_back.proofs.PartsBack.{line_back, step_back}
 use Rattle.alg_reading_back.proofs.PiecesAt.{PiecesAt, pieces_at_left, pieces_at_right}
 use Rattle.alg_reading_back.proofs.PlacedStatements.{lines_place, steps_place, said_statement, line_said, first_step_said, step_said}
 use Rattle.alg_reading_back.proofs.SpelledStatements.{line_pieces}
-use Rattle.alg_reading_back.proofs.WrittenAnswers.{answer_raw, version_raw, written_line, written_step}
-use Rattle.alg_reading_back.proofs.WrittenLines.{WrittenLine, indented, lines_pieces, written_answer, part_lines, answer_lines}
+use Rattle.alg_reading_back.proofs.WrittenAnswers.{written_line, written_step}
+use Rattle.alg_reading_back.proofs.WrittenLines.{WrittenLine, indented, lines_pieces}
 use Rattle.alg_reading_back.proofs.WrittenLists.{Written}
 use Rattle.alg_reading_back.proofs.WrittenStatements.{dot}
 use Rattle.alg_reading_back.proofs.WrittenTerms.{line_feed}
@@ -159,7 +152,7 @@ module _ (file g : File) (text : List ℕ) (distinct : AreDistinct (names_of g))
       let further = done ++ l ∷ [] in
       let next = answered g given (certified constants power further []) p in
       let kind = line.raw at in
-      let same : with_statement now text kind ≡ next = ap (λ as. record { file = g; answers = as; place = p })
+      let same : with_statement now text kind ≡ next = ap (λ xs. record { file = g; answers = xs; place = p })
       (with_last-append (with_part g text (goal_atoms g (last_goal g)) kind) given said
       ∙ ap (λ a. given ++ with_part g text a kind said ∷ []) atoms_same
       ∙ ap (λ x. given ++ with_line x said ∷ []) back.same) in
@@ -199,7 +192,7 @@ module _ (file g : File) (text : List ℕ) (distinct : AreDistinct (names_of g))
       let further = done ++ s ∷ [] in
       let next = answered g given (certified constants power ls further) (steps_of p) in
       let kind = line.raw at in
-      let same : with_statement now text kind ≡ next = ap (λ as. record { file = g; answers = as; place = steps_of p })
+      let same : with_statement now text kind ≡ next = ap (λ xs. record { file = g; answers = xs; place = steps_of p })
       (with_last-append (with_part g text (goal_atoms g (last_goal g)) kind) given said
       ∙ ap (λ a. given ++ with_part g text a kind said ∷ []) atoms_same
       ∙ ap (λ x. given ++ with_step x said ∷ []) back.same) in

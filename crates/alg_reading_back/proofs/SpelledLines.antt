@@ -1,39 +1,24 @@
 -- The lines of a file with its answers spell its text, in both formats.
-use Rattle.std.proofs.Common.{◌≡◌, ℕ, List, [], ◌∷◌, ◌++◌, map, flat_map, codes, decimal, refl, ap, sym, ◌∙◌, append-nil, append_assoc, ℤ, Option, None, Some}
-use Rattle.std.specs.Fmt.{signed_decimal}
+use Rattle.std.proofs.Common.{◌≡◌, ℕ, List, [], ◌∷◌, ◌++◌, flat_map, refl, ap, sym, ◌∙◌, append-nil, Option}
 use Rattle.std.specs.List.{AllByRecursion}
 use Rattle.std.proofs.lemmas.List.Elements.{recursion_from_All}
 use Rattle.alg_lines.specs.declared.answer.Answer.{Answer}
-use Rattle.alg_lines.specs.declared.answer.Answer.TheVariants as answer
-use Rattle.alg_lines.specs.declared.cert.Cert.{Cert}
-use Rattle.alg_lines.specs.declared.cert.GoalStep.{GoalStep}
-use Rattle.alg_lines.specs.declared.cert.Line.{Line}
-use Rattle.alg_reify.specs.Table.{goal_atoms}
 use Rattle.alg_terms.specs.declared.file.File.{File}
 use Rattle.alg_terms.specs.declared.file.Statement.{Statement}
 use Rattle.alg_terms.specs.declared.file.Statement.TheVariants as statement
-use Rattle.alg_terms.specs.declared.goals.Goal.{Goal}
-use Rattle.alg_terms.specs.declared.term.Atom.{Atom}
 use Rattle.alg_terms.specs.Members.{goal_at}
 use Rattle.alg_terms.specs.Valid.{IsValid}
 use Rattle.alg_reader.specs.declared.format.Format.{Format}
 use Rattle.alg_reader.specs.declared.format.Format.TheVariants as formats
-use Rattle.alg_reader.specs.declared.raw.RawKind.{RawKind}
 use Rattle.alg_tokens.proofs.Neighbours.{spell, spell_append}
-use Rattle.alg_printer.specs.Answers.{answer_text, optional_text, line_text, step_text, scale_text, over_text, constants_text}
-use Rattle.alg_printer.specs.FormatOne.{answer_one_of, line_one_of, step_one_of, statement_one_of}
-use Rattle.alg_printer.specs.Monomials.{mono_text}
+use Rattle.alg_printer.specs.FormatOne.{statement_one_of}
 use Rattle.alg_printer.specs.Statements.{goal_text}
 use Rattle.alg_printer.specs.Text.{answer_at, statement_text, IsStatementOf}
 use Rattle.alg_printer.proofs.Declared.{statements_are_of}
 use Rattle.alg_reading_back.specs.ReadingBack.{unanswered}
-use Rattle.alg_reading_back.proofs.SpelledAnswers.{body_text, spelled_body, spelled_line, spelled_step}
 use Rattle.alg_reading_back.proofs.SpelledStatements.{line_pieces, spelled_statement, spelled_goal}
-use Rattle.alg_reading_back.proofs.WrittenAnswers.{written_line, written_step}
-use Rattle.alg_reading_back.proofs.WrittenLines.{WrittenLine, indented, plain_line, lines_pieces, written_answer, part_lines, answer_lines, statement_lines, file_lines}
-use Rattle.alg_reading_back.proofs.WrittenLists.{Written}
-use Rattle.alg_reading_back.proofs.WrittenStatements.{written_goal, written_statement, dot}
-use Rattle.alg_reading_back.proofs.WrittenTerms.{line_feed}
+use Rattle.alg_reading_back.proofs.WrittenLines.{plain_line, lines_pieces, answer_lines, statement_lines, file_lines}
+use Rattle.alg_reading_back.proofs.WrittenStatements.{written_goal, written_statement}
 use Rattle.alg_reading_back.proofs.SpelledAnswerLines.{lines_append, answer_in, answer_spelled}
 
 -- ---- files

@@ -1,5 +1,5 @@
 -- The pieces of monomials and integers spell their texts.
-use Rattle.std.proofs.Common.{◌≡◌, ℕ, true, false, cond, nat_lt, List, [], ◌∷◌, ◌++◌, codes, decimal, refl, ap, sym, ◌∙◌, append-nil, append_assoc, arith, ℤ, pos, negsuc, suc}
+use Rattle.std.proofs.Common.{◌≡◌, ℕ, true, false, cond, nat_lt, List, [], ◌∷◌, ◌++◌, codes, decimal, refl, ap, ◌∙◌, append-nil, arith, ℤ, pos, negsuc, suc}
 use Rattle.std.specs.Fmt.{signed_decimal}
 use Rattle.std.proofs.lemmas.Fmt.{decimal_digit}
 use Rattle.alg_mono.specs.Mono.{Monomial}
@@ -8,7 +8,7 @@ use Rattle.alg_terms.specs.declared.term.Atom.{Atom}
 use Rattle.alg_tokens.specs.declared.token.Sign.TheVariants as signs
 use Rattle.alg_tokens.proofs.Neighbours.{spell, spell_append}
 use Rattle.alg_printer.specs.Monomials.{atom_at, atom_text, exponent_text, factor_text, factors_text, mono_text}
-use Rattle.alg_printer.specs.Names.{var_name, listed}
+use Rattle.alg_printer.specs.Names.{var_name}
 use Rattle.alg_reading_back.proofs.SpelledLists.{spelled_list}
 use Rattle.alg_reading_back.proofs.SpelledMethods.{spelled_path}
 use Rattle.alg_reading_back.proofs.WrittenLists.{star}
