@@ -130,7 +130,11 @@ module _ (file : File) (names : HasNames file) (atoms : List Atom) (are : AreAto
   line_ends format l is next stops =
       let combined = written_combined file format atoms (pos l.i) l.b l.n l.j l.d in
       let from_m = cofactor_pieces file format atoms l.m ++ combined.pieces in
-      let i_is : IsNumeral (pos l.i) = let low : IsCount l.i = is.i in (omega (arith, ints), omega (arith, ints, low)) in
+      let i_is : IsNumeral (pos l.i) = let low : IsCount l.i = is.i in (
+        omega (arith, ints),
+        omega
+            (arith, ints, low),
+      ) in
       let stands = combined_ends format (pos l.i) l.b l.n l.j l.d i_is is.b is.n is.j is.d next stops in
       let m_stands = ends_append (cofactor_pieces file format atoms l.m) combined.pieces next
       (cofactor_ends format l.m is.m (spell combined.pieces ++ next)) stands in

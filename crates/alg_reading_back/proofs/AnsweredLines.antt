@@ -60,9 +60,9 @@ conditions_kept file goal [] all at = (refl, refl)
 conditions_kept file goal (t ∷ ts) all at =
     let r = (written file t).raw at in
     let low = all.0.term.depth in
-    let rs = all_raw (written_condition file) comma (at + width (written_condition file t).pieces
-    + width (separator_pieces comma)) ts in
-    let (whole, shallow) = conditions_kept file goal ts all.1 _ in (
+    let there = at + width (written_condition file t).pieces + width (separator_pieces comma) in
+    let rs = all_raw (written_condition file) comma there ts in
+    let (whole, shallow) = conditions_kept file goal ts all.1 there in (
       ap (λ x. x ∷ map kept rs) (term_kept file t low at) ∙ ap (λ xs. r ∷ xs) whole,
       ap (λ o. option_or o (first_of_terms rs)) (term_not_deep file t low at) ∙ shallow,
     )
@@ -71,11 +71,13 @@ answer_kept : (file : File) (goal : Goal) (format : Format) (atoms : List Atom) 
     HasParts file goal said → (at : ℕ) → IsKept (raws.Answer (answer_raw file format atoms said at))
 answer_kept file goal format atoms (answer.Proved conditions) parts at =
     let (whole, shallow) =
-    conditions_kept file goal conditions (recursion_from_All (IsAnswerTerm file goal) conditions parts) _ in
+    conditions_kept file goal conditions (recursion_from_All (IsAnswerTerm file goal) conditions parts)
+    (at + 6 + 1 + 2 + 1) in
     (ap (λ rs. raws.Answer (answers.Proved rs)) whole, shallow)
 answer_kept file goal format atoms (answer.ZeroDenominator t) parts at =
     let low = parts.term.depth in
-    (ap (λ r. raws.Answer (answers.ZeroDenominator r)) (term_kept file t low _), term_not_deep file t low _)
+    let there = at + 4 + 1 + 11 + 1 in
+    (ap (λ r. raws.Answer (answers.ZeroDenominator r)) (term_kept file t low there), term_not_deep file t low there)
 answer_kept file goal format atoms (answer.Certified constants cert) parts at = (refl, refl)
 answer_kept file goal format atoms (answer.No m left right) parts at = (refl, refl)
 answer_kept file goal format atoms (answer.NoneUpTo power) parts at = (refl, refl)

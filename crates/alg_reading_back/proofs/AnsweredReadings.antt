@@ -62,11 +62,13 @@ module _ (file : File) (answers : List (Option Answer)) (can : CanBePrinted file
   statement_leads before after (statement.Sort k) at split closed named p placed =
       declaration_taken file answers can format text before after (statement.Sort k) at
       (there before after (statement.Sort k) at split closed named
-      (pieces_at_left text at (line_pieces (written_statement file (statement.Sort k)).pieces) [] placed)) p refl refl refl
+      (pieces_at_left text at (line_pieces (written_statement file (statement.Sort k)).pieces) [] placed)) p refl
+      refl refl
   statement_leads before after (statement.Hom f) at split closed named p placed =
       declaration_taken file answers can format text before after (statement.Hom f) at
       (there before after (statement.Hom f) at split closed named
-      (pieces_at_left text at (line_pieces (written_statement file (statement.Hom f)).pieces) [] placed)) p refl refl refl
+      (pieces_at_left text at (line_pieces (written_statement file (statement.Hom f)).pieces) [] placed)) p refl refl
+      refl
   statement_leads before after (statement.Vars first count) at split closed named p placed =
       let s = statement.Vars first count in
       declaration_taken file answers can format text before after s at
@@ -75,7 +77,8 @@ module _ (file : File) (answers : List (Option Answer)) (can : CanBePrinted file
   statement_leads before after (statement.Hyp h) at split closed named p placed =
       declaration_taken file answers can format text before after (statement.Hyp h) at
       (there before after (statement.Hyp h) at split closed named
-      (pieces_at_left text at (line_pieces (written_statement file (statement.Hyp h)).pieces) [] placed)) p refl refl refl
+      (pieces_at_left text at (line_pieces (written_statement file (statement.Hyp h)).pieces) [] placed)) p refl refl
+      refl
   statement_leads before after (statement.Goal i) at split closed named p placed =
       let s = statement.Goal i in
       goal_taken file answers can format text before after i at

@@ -23,11 +23,11 @@ use Rattle.alg_terms.specs.Valid.{names_of}
 use Rattle.alg_tokens.specs.declared.code.Code.TheVariants as code
 use Rattle.alg_tokens.specs.declared.token.Sign.TheVariants as signs
 use Rattle.alg_tokens.specs.declared.token.Word.TheVariants as words
+use Rattle.alg_tokens.specs.Laws.{width}
 use Rattle.alg_reader.specs.declared.format.Format.{Format}
 use Rattle.alg_reader.specs.declared.format.Format.TheVariants as formats
 use Rattle.alg_reader.specs.declared.raw.RawAnswer.{RawAnswer}
 use Rattle.alg_reader.specs.declared.raw.RawAnswer.TheVariants as raw_answer
-use Rattle.alg_reader.specs.declared.raw.RawMono.{RawMono}
 use Rattle.alg_reader.specs.declared.raw.RawNumber.{RawNumber}
 use Rattle.alg_reader.specs.declared.raw.RawTerm.{RawTerm}
 use Rattle.alg_typing.specs.AnswerTerms.{answer_sorts, may_divide}
@@ -58,7 +58,7 @@ use Rattle.alg_reading_back.proofs.PiecesAt.{PiecesAt, pieces_at_left}
 use Rattle.alg_reading_back.proofs.Shrinking.{rules}
 use Rattle.alg_reading_back.proofs.TermsBack.{term_back}
 use Rattle.alg_reading_back.proofs.WrittenAnswers.{not_zero, written_condition, written_constant, answer_pieces, answer_raw, version_raw, power_place}
-use Rattle.alg_reading_back.proofs.WrittenLists.{comma, all_raw}
+use Rattle.alg_reading_back.proofs.WrittenLists.{comma, separator_pieces, all_raw}
 use Rattle.alg_reading_back.proofs.WrittenMonos.{written_mono, written_integer}
 use Rattle.alg_reading_back.proofs.WrittenTerms.{written, space, sign, word}
 
@@ -76,7 +76,8 @@ version_clear formats.Two at = refl
 constants_same : (cs : List ℤ) (at : ℕ) →
     map (λ (n : RawNumber). n.value) (all_raw written_constant comma at cs) ≡ cs
 constants_same [] at = refl
-constants_same (c ∷ cs) at = ap (λ ns. c ∷ ns) (constants_same cs _)
+constants_same (c ∷ cs) at = ap (λ ns. c ∷ ns) (constants_same cs (at + width (written_constant c).pieces + width
+    (separator_pieces comma)))
 
 -- the form of an answer that belongs to its goal's method does so as it is read
 belongs_back : (m : Method) (file : File) (format : Format) (atoms : List Atom) (said : Answer) (at : ℕ) →
@@ -180,10 +181,11 @@ module _ (file g : File) (text : List ℕ) (distinct : AreDistinct (names_of g))
       pub parts : part_faults g text goal raw ≡ []
       pub same : answer_of g text (goal_atoms g goal) raw ≡ opened said
 
-    -- answers without names
-    plain_back : (said : Answer) (raw : RawAnswer) → answer_names g text raw ≡ [] → part_faults g text goal raw ≡ [] →
-        answer_of g text (goal_atoms g goal) raw ≡ opened said → IsAnswerBack said raw
-    plain_back said raw names parts same = record { names = names; parts = parts; same = same }
+    plain_back : (said : Answer) (at : ℕ) → answer_names g text (answer_raw file format atoms said at) ≡ [] →
+        part_faults g text goal (answer_raw file format atoms said at) ≡ [] →
+        answer_of g text (goal_atoms g goal) (answer_raw file format atoms said at) ≡ opened said →
+        IsAnswerBack said (answer_raw file format atoms said at)
+    plain_back said at names parts same = record { names = names; parts = parts; same = same }
 
     terms_back : (conditions : List Term) (rs : List RawTerm) → AreOf IsTermBack conditions rs →
         IsAnswerBack (answer.Proved conditions) (raw_answer.Proved rs)
@@ -196,16 +198,18 @@ module _ (file g : File) (text : List ℕ) (distinct : AreDistinct (names_of g))
           (of_weaker IsTermBack (λ t r. term_of g text r ≡ t) (λ t r b. b.term) conditions rs are));
     }
 
-    no_back : (m : Monomial) (left right : ℤ) (raw : RawMono) (left_at right_at : ℕ) →
+    no_back : (m : Monomial) (left right : ℤ) (at : ℕ) →
+        let raw = (written_mono file atoms m).raw (at + 2 + 1 + 2 + 1) in
         IsMonoBack file g text distinct grows atoms are (goal_once file goal) m raw →
-        IsAnswerBack (answer.No m left right)
-        (raw_answer.No raw (record { value = left; at = left_at }) (record { value = right; at = right_at }))
-    no_back m left right raw left_at right_at back = record {
-      names = back.names;
-      parts = ap (λ a. mono_faults g text a raw) table ∙ back.clear;
-      same = ap (λ a. answer.No (monomial_of g text a raw) left right) table
-          ∙ ap (λ n. answer.No n left right) back.same;
-    }
+        IsAnswerBack (answer.No m left right) (answer_raw file format atoms (answer.No m left right) at)
+    no_back m left right at back =
+        let raw = (written_mono file atoms m).raw (at + 2 + 1 + 2 + 1) in
+        record {
+          names = back.names;
+          parts = ap (λ a. mono_faults g text a raw) table ∙ back.clear;
+          same = ap (λ a. answer.No (monomial_of g text a raw) left right) table
+              ∙ ap (λ n. answer.No n left right) back.same;
+        }
 
     -- each answer comes back where its pieces stand
     pub answer_back : (said : Answer) → HasParts file goal said → AllByRecursion IsTermThere (terms_of said) →
@@ -218,28 +222,28 @@ module _ (file g : File) (text : List ℕ) (distinct : AreDistinct (names_of g))
         (at + 6 + 1 + 2 + 1) there.0 there.1 placed.1.1.1.1)
     answer_back (answer.Certified constants cert) parts there at placed =
         let cert_at = power_place format at in
-        let ns = all_raw written_constant comma (cert_at + length (decimal cert.power) + 1 + 2 + 1) constants in
-        plain_back (answer.Certified constants cert)
-        (raw_answer.Certified (version_raw format (at + 6 + 1)) (record { value = pos cert.power; at = cert_at }) ns) refl
+        let constants_at = cert_at + length (decimal cert.power) + 1 + 2 + 1 in
+        plain_back (answer.Certified constants cert) at refl
         (two_empty (option_map_or version_fault (version_raw format (at + 6 + 1)) []) _
         (version_clear format (at + 6 + 1)) (count_clear cert.power cert_at parts.1.power))
         (ap (λ cs. answer.Certified cs (record { power = cert.power; lines = []; steps = [] }))
-        (constants_same constants _))
+        (constants_same constants constants_at))
     answer_back (answer.No m left right) parts there at placed =
-        no_back m left right _ _ _ (mono_back file g text distinct grows atoms are (goal_once file goal) m parts.0
+        no_back m left right at (mono_back file g text distinct grows atoms are (goal_once file goal) m parts.0
         (at + 2 + 1 + 2 + 1) (pieces_at_left text (at + 2 + 1 + 2 + 1) (written_mono file atoms m).pieces
         (space ∷ sign signs.Colon ∷ space ∷ ((written_integer left).pieces
         ++ (space ∷ word words.And ∷ space ∷ (written_integer right).pieces))) placed.1.1.1.1))
     answer_back (answer.ZeroDenominator denominator) parts there at placed =
         let back = term_there denominator (at + 4 + 1 + 11 + 1) there.0 placed.1.1.1.1 in
-        plain_back (answer.ZeroDenominator denominator) _ back.names back.sorts (ap answer.ZeroDenominator back.term)
+        plain_back (answer.ZeroDenominator denominator) at back.names back.sorts (ap answer.ZeroDenominator back.term)
     answer_back (answer.NoneUpTo power) parts there at placed =
-        plain_back (answer.NoneUpTo power) _ refl (count_clear power _ parts) refl
+        plain_back (answer.NoneUpTo power) at refl
+        (count_clear power (at + 4 + 1 + 2 + 1 + 2 + 1 + 5 + 1) parts) refl
     answer_back (answer.GaveUp limit) parts there at placed =
-        plain_back (answer.GaveUp limit) _ refl (count_clear limit _ parts) refl
-    answer_back answer.Atoms parts there at placed = plain_back answer.Atoms _ refl refl refl
-    answer_back answer.Range parts there at placed = plain_back answer.Range _ refl refl refl
-    answer_back answer.Degree parts there at placed = plain_back answer.Degree _ refl refl refl
+        plain_back (answer.GaveUp limit) at refl (count_clear limit (at + 4 + 1 + 2 + 1 + 5 + 1) parts) refl
+    answer_back answer.Atoms parts there at placed = plain_back answer.Atoms at refl refl refl
+    answer_back answer.Range parts there at placed = plain_back answer.Range at refl refl refl
+    answer_back answer.Degree parts there at placed = plain_back answer.Degree at refl refl refl
 
     -- so it has no faults
     pub answer_faultless : (said : Answer) (at start : ℕ) → HasForm goal.method said →

@@ -97,7 +97,8 @@ module _ (file g : File) (text : List ℕ) (distinct : AreDistinct (names_of g))
       let written = written_answer file format atoms said in
       let head = indented written in
       let raw = answer_raw file format atoms said (at + 1 + 1) in
-      let back = answer_back file g text distinct grows closed goal low are table format said is.parts there (at + 1 + 1)
+      let back = answer_back file g text distinct grows closed goal low are table format said is.parts there
+      (at + 1 + 1)
       (indented_there text written at placed) in
       let clear = answer_faultless file g text distinct grows closed goal low are table format said (at + 1 + 1)
       (at + 1 + 1) is.form back.parts in
@@ -123,16 +124,19 @@ module _ (file g : File) (text : List ℕ) (distinct : AreDistinct (names_of g))
   -- the lines and steps of an answer
   parts_taken : (said : Answer) → IsPrintable file goal said → (at : ℕ) →
       PiecesAt text at (lines_pieces (part_lines file format atoms said)) →
-      LeadsTo (answered g given (Some (opened said)) (place_of_said said)) at (part_lines file format atoms said) (Some said)
+      LeadsTo (answered g given (Some (opened said)) (place_of_said said)) at (part_lines file format atoms said)
+      (Some said)
   parts_taken (answer.Certified constants cert) is at placed =
       let over = is.parts.1 in
       let lines = map write_line cert.lines in
       let steps = map write_step cert.steps in
       let there = subst (λ ps. PiecesAt text at ps) (lines_split lines steps) placed in
-      let first = lines_taken file g text distinct grows goal are table format last given constants cert.power cert.lines [] at
+      let first = lines_taken file g text distinct grows goal are table format last given constants cert.power
+      cert.lines [] at
       (recursion_from_All (IsLineOver atoms) cert.lines over.lines)
       (pieces_at_left text at (lines_pieces lines) (lines_pieces steps) there) in
-      let (q, later) = steps_taken file g text distinct grows goal are table format last given constants cert.power cert.lines cert.steps [] (lines_place format)
+      let (q, later) = steps_taken file g text distinct grows goal are table format last given constants cert.power
+      cert.lines cert.steps [] (lines_place format)
       (at + width (lines_pieces lines)) (inl refl) (recursion_from_All (IsStepOver atoms) cert.steps over.steps)
       (pieces_at_right text at (lines_pieces lines) (lines_pieces steps) there) in
       (q, taken_append (annotated_way text) lines steps _ _ _ at first later)
@@ -156,4 +160,5 @@ module _ (file g : File) (text : List ℕ) (distinct : AreDistinct (names_of g))
       let parts = part_lines file format atoms said in
       head_taken said parts (Some said) is there at
       (pieces_at_left text at (line_pieces head.pieces) (lines_pieces parts) placed)
-      (parts_taken said is (behind head at) (pieces_at_right text at (line_pieces head.pieces) (lines_pieces parts) placed))
+      (parts_taken said is (behind head at) (pieces_at_right text at (line_pieces head.pieces)
+      (lines_pieces parts) placed))

@@ -147,7 +147,8 @@ line_derived file format atoms l at =
     (word_before words.Line _ (integer l.a ∷ sign signs.Comma ∷ space ∷ from_m) at _ said_a) in
     let c = last.raw i_at in
     subst (λ x. IsDerived (rule (rules.Line format)) (tokens_of at write.pieces)
-    (values.line (record { value = l.a; at = a_at }) (unwrap_or x (mono_one at)) c.first c.b (unwrap_or c.n (mono_one at))
+    (values.line (record { value = l.a; at = a_at }) (unwrap_or x (mono_one at)) c.first c.b (unwrap_or c.n
+    (mono_one at))
     c.j (unwrap_or c.d (number_one at)))) m_says whole
 
 pub step_derived : (file : File) (format : Format) (atoms : List Atom) (s : GoalStep) (at : ℕ) →

@@ -49,7 +49,8 @@ module _ {X R : Type 0} (write : X → Written R) (s : Separator) (r : Rule) (it
       let behind = first + width pieces in
       let mark = sign_at (separator_sign s) at in
       let (v, rest, says) = later_derived xs behind in
-      let next = token_before (kinds.Sign (separator_sign s)) mark (rule r) (tokens_of first pieces) (means x first) refl
+      let next = token_before (kinds.Sign (separator_sign s)) mark (rule r) (tokens_of first pieces)
+      (means x first) refl
       (derived x first) in (
         two (two (one mark) (means x first)) v,
         subst (λ ts. IsDerived (many next_item) ts (two (two (one mark) (means x first)) v))

@@ -93,7 +93,8 @@ factor_derived file atoms e at =
     let f = atom_raw file at atom.path (var_name file atom.var) in
     let (v, exponent, says) = exponent_derived e.1 there in
     let whole = by_rule rules.Factor (tokens_of at (written_factor file atoms e).pieces) _
-    (pieces_before (rule rules.Atom) (option (kinds.Sign signs.Caret)) pieces (exponent_pieces e.1) at there (factor f) v
+    (pieces_before (rule rules.Atom) (option (kinds.Sign signs.Caret)) pieces (exponent_pieces e.1) at there
+    (factor f) v
     refl (atom_derived file atom.path (var_name file atom.var) at) exponent) in
     subst (λ n. IsDerived (rule rules.Factor) (tokens_of at (written_factor file atoms e).pieces)
     (factor (raised_factor f n))) says whole

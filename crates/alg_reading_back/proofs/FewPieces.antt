@@ -1,5 +1,5 @@
 -- Few parentheses are open at once in pieces, and how many are open behind them.
-use Rattle.std.proofs.Common.{◌≡◌, ◌≤◌, ℕ, ◌+◌, ◌-◌, true, false, cond, nat_lt, List, [], ◌∷◌, ◌++◌, refl, ap, ◌∙◌, arith, ℤ, pos, negsuc}
+use Rattle.std.proofs.Common.{◌≡◌, ◌≤◌, ℕ, ◌+◌, ◌-◌, true, false, cond, nat_lt, List, [], ◌∷◌, ◌++◌, length, refl, ap, ◌∙◌, arith, ℤ, pos, negsuc}
 use Rattle.alg_mono.specs.Mono.{Monomial}
 use Rattle.alg_terms.specs.declared.file.File.{File}
 use Rattle.alg_terms.specs.declared.term.Atom.{Atom}
@@ -32,15 +32,15 @@ OpenFew depth (Lexeme kind bytes ∷ pieces) =
 -- so it is with their tokens, wherever they begin
 pub few_at : (depth at : ℕ) (pieces : List Piece) → OpenFew depth pieces → HasFewOpen depth (tokens_of at pieces)
 few_at depth at [] few = tt
-few_at depth at (Blank bytes ∷ pieces) few = few_at depth _ pieces few
+few_at depth at (Blank bytes ∷ pieces) few = few_at depth (at + length bytes) pieces few
 few_at depth at (Lexeme kind bytes ∷ pieces) few =
-    (few.0, few_at (reader.open_with depth kind) _ pieces few.1)
+    (few.0, few_at (reader.open_with depth kind) (at + length bytes) pieces few.1)
 
 pub few_from : (depth at : ℕ) (pieces : List Piece) → HasFewOpen depth (tokens_of at pieces) → OpenFew depth pieces
 few_from depth at [] few = tt
-few_from depth at (Blank bytes ∷ pieces) few = few_from depth _ pieces few
+few_from depth at (Blank bytes ∷ pieces) few = few_from depth (at + length bytes) pieces few
 few_from depth at (Lexeme kind bytes ∷ pieces) few =
-    (few.0, few_from (reader.open_with depth kind) _ pieces few.1)
+    (few.0, few_from (reader.open_with depth kind) (at + length bytes) pieces few.1)
 
 -- ---- pieces in two parts
 
@@ -100,7 +100,8 @@ closes_factor file atoms e =
     closes_both (atom_pieces file atom) (exponent_pieces e.1) (closes_path file atom.path (var_name file atom.var))
     (closes_exponent e.1)
 
-closes_later : (file : File) (atoms : List Atom) (m : Monomial) → Closes (later_pieces (written_factor file atoms) star m)
+closes_later : (file : File) (atoms : List Atom) (m : Monomial) → Closes (later_pieces
+    (written_factor file atoms) star m)
 closes_later file atoms [] depth = refl
 closes_later file atoms (e ∷ m) depth =
     closes_both (written_factor file atoms e).pieces (later_pieces (written_factor file atoms) star m)

@@ -3,9 +3,8 @@ use Rattle.std.proofs.Common.{◌≡◌, ◌<◌, ℕ, ◌+◌, List, [], ◌∷
 use Rattle.std.specs.Prelude.{All}
 use Rattle.std.specs.List.{AllByRecursion}
 use Rattle.std.specs.Option.{IfSome}
-use Rattle.std.proofs.lemmas.List.Elements.{All-weaker, recursion_from_All}
+use Rattle.std.proofs.lemmas.List.Elements.{All-weaker}
 use Rattle.alg_lines.specs.declared.answer.Answer.{Answer}
-use Rattle.alg_lines.specs.declared.answer.Answer.TheVariants as answer
 use Rattle.alg_terms.specs.AnswerRules.{IsAnswerTerm}
 use Rattle.alg_terms.specs.declared.file.File.{File}
 use Rattle.alg_terms.specs.declared.file.Statement.{Statement}
@@ -21,15 +20,11 @@ use Rattle.alg_reader.specs.declared.format.Format.{Format}
 use Rattle.alg_reader.specs.declared.place.Place.{Place}
 use Rattle.alg_reader.specs.declared.place.Place.TheVariants as places
 use Rattle.alg_reader.specs.declared.raw.RawKind.{RawKind}
-use Rattle.alg_typing.specs.NameFaults.{name_faults}
-use Rattle.alg_typing.specs.SortFaults.{sort_faults}
 use Rattle.alg_typing.proofs.Ordering.{all_left, all_right}
-use Rattle.alg_annotated.specs.Names.{statement_names}
 use Rattle.alg_annotated.specs.Places.{place_behind}
 use Rattle.alg_annotated.specs.Reading.{SoFar, with_statement, annotated_way}
 use Rattle.alg_annotated.specs.Resolved.{answers_with}
-use Rattle.alg_annotated.specs.Rules.{statement_faults}
-use Rattle.alg_printer.specs.Printable.{HasParts, IsPrintable}
+use Rattle.alg_printer.specs.Printable.{IsPrintable}
 use Rattle.alg_printer.specs.Text.{answer_at, IsStatementOf}
 use Rattle.alg_reading_back.specs.ReadingAnswers.{AreNamedBy, CanBePrinted, terms_of}
 use Rattle.alg_reading_back.proofs.AnswersBack.{IsTermThere}
@@ -55,42 +50,7 @@ use Rattle.alg_reading_back.proofs.UsedBefore.{vars_low, homs_low}
 use Rattle.alg_reading_back.proofs.WrittenLines.{WrittenLine, plain_line, lines_pieces, answer_lines, statement_lines}
 use Rattle.alg_reading_back.proofs.WrittenStatements.{written_goal, written_statement}
 use Rattle.alg_reading_back.proofs.WrittenTerms.{line_feed}
-
--- ---- faults of declarations and goals
-
--- they are those without answers
-same_names : (file : File) (s : Statement) (g : File) (text : List ℕ) (at : ℕ) →
-    statement_names g text ((written_statement file s).raw at) ≡ name_faults g text ((written_statement file s).raw at)
-same_names file (statement.Sort k) g text at = refl
-same_names file (statement.Hom f) g text at = refl
-same_names file (statement.Vars first count) g text at = refl
-same_names file (statement.Hyp h) g text at = refl
-same_names file (statement.Goal i) g text at = refl
-
-same_faults : (file : File) (s : Statement) (g : File) (text : List ℕ) (start at : ℕ) →
-    statement_faults g text start ((written_statement file s).raw at)
-    ≡ sort_faults g text ((written_statement file s).raw at)
-same_faults file (statement.Sort k) g text start at = refl
-same_faults file (statement.Hom f) g text start at = refl
-same_faults file (statement.Vars first count) g text start at = refl
-same_faults file (statement.Hyp h) g text start at = refl
-same_faults file (statement.Goal i) g text start at = refl
-
--- ---- the terms of an answer
-
--- they keep the rules of terms in answers
-terms_stand : (file : File) (goal : Goal) (said : Answer) → HasParts file goal said →
-    AllByRecursion (IsAnswerTerm file goal) (terms_of said)
-terms_stand file goal (answer.Proved conditions) parts =
-    recursion_from_All (IsAnswerTerm file goal) conditions parts
-terms_stand file goal (answer.ZeroDenominator denominator) parts = (parts, tt)
-terms_stand file goal (answer.Certified constants cert) parts = tt
-terms_stand file goal (answer.No m left right) parts = tt
-terms_stand file goal (answer.NoneUpTo power) parts = tt
-terms_stand file goal (answer.GaveUp limit) parts = tt
-terms_stand file goal answer.Atoms parts = tt
-terms_stand file goal answer.Range parts = tt
-terms_stand file goal answer.Degree parts = tt
+use Rattle.alg_reading_back.proofs.AnsweredRules.{same_names, same_faults, terms_stand}
 
 -- the state behind some statements
 module _ (file : File) (answers : List (Option Answer)) where
@@ -136,7 +96,8 @@ module _ (file : File) (answers : List (Option Answer)) (can : CanBePrinted file
         ≡ record { file = front file (before ++ s ∷ []); answers = added; place = place_behind p kind } =
         ap (λ f. record { file = f; answers = answers_with g text kind now.answers; place = place_behind p kind })
         taken.extends
-        ∙ ap (λ xs. record { file = front file (before ++ s ∷ []); answers = xs; place = place_behind p kind }) adds in (
+        ∙ ap (λ xs. record { file = front file (before ++ s ∷ []); answers = xs; place = place_behind p kind }) adds
+        in (
           statement_placed p (tokens_of at (written_statement file s).pieces) kind
               (statement_derived file can.valid s there.is at),
           clear_fault g text (raw_of line at) refl (same_names file s g text at ∙ taken.names)
@@ -195,7 +156,8 @@ module _ (file : File) (answers : List (Option Answer)) (can : CanBePrinted file
     terms_there : (ts : List Term) → AllByRecursion (IsAnswerTerm file goal) ts →
         All (λ k. k < length g.vars) (flat_map (fold_term node_vars) ts) →
         All (λ f. f < length g.homs) (flat_map (fold_term node_homs) ts) →
-        AllByRecursion (IsTermThere file g text (front_distinct file can.valid further) (grows file further) next_is goal
+        AllByRecursion (IsTermThere file g text (front_distinct file can.valid further)
+        (grows file further) next_is goal
         sort_there) ts
     terms_there [] all vars homs = tt
     terms_there (t ∷ ts) all vars homs =
@@ -232,7 +194,8 @@ module _ (file : File) (answers : List (Option Answer)) (can : CanBePrinted file
 
     -- a goal and its answer lead to the next front
     pub goal_taken : (p : Place) → PiecesAt text at (lines_pieces (lines_of (statement.Goal i))) →
-        (q : Place) × IsWay (so_far file answers before p) at (lines_of (statement.Goal i)) (so_far file answers further q)
+        (q : Place) × IsWay (so_far file answers before p) at (lines_of (statement.Goal i))
+        (so_far file answers further q)
     goal_taken p placed =
         let s = statement.Goal i in
         let said = answer_at answers i in
@@ -242,7 +205,8 @@ module _ (file : File) (answers : List (Option Answer)) (can : CanBePrinted file
         let printable = can.printable.each i low in
         let named = can.in_order before after i there.split in
         let start = at + width (line_pieces line.pieces) in
-        let (q, later) = answer_taken file g text (front_distinct file can.valid further) (grows file further) next_is goal
+        let (q, later) = answer_taken file g text (front_distinct file can.valid further)
+        (grows file further) next_is goal
         sort_there (atoms_there file can.valid before after i there.split low front_is there.named)
         (table_there file can.valid before after i there.split low front_is there.named) format
         (goal_is_last file can.valid before after i there.split low front_is there.named) given said printable
@@ -252,6 +216,7 @@ module _ (file : File) (answers : List (Option Answer)) (can : CanBePrinted file
         (next file can.valid.ordered before after s there.split).goals in
         let item = next_item (λ s. (declared_by s).goals) answers None before s i continues refl in
         let end = so_far file answers further q in
-        let whole = subst (λ xs. IsWay (record { file = g; answers = given ++ None ∷ []; place = places.AfterGoal }) start
+        let whole = subst (λ xs. IsWay (record { file = g; answers = given ++ None ∷ []; place = places.AfterGoal })
+        start
         others (record { file = g; answers = xs; place = q })) item.items later in
         (q, line_taken before after s at there p others (given ++ None ∷ []) end refl whole)

@@ -23,7 +23,7 @@ use Rattle.alg_reading_back.specs.ReadingAnswers.{CanBePrinted}
 use Rattle.alg_reading_back.proofs.AnsweredLines.{lines_are, statement_whole}
 use Rattle.alg_reading_back.proofs.FewPieces.{OpenFew, few_at, few_from, few_left, Closes, closes_both}
 use Rattle.alg_reading_back.proofs.LineTokens.{IsLine, IsWhole}
-use Rattle.alg_reading_back.proofs.WrittenAnswers.{if_pieces, power_front, cofactor_pieces, written_constant, written_line, written_step}
+use Rattle.alg_reading_back.proofs.WrittenAnswers.{written_combined, if_pieces, power_front, cofactor_pieces, written_constant, written_line, written_step}
 use Rattle.alg_reading_back.proofs.WrittenLines.{WrittenLine, indented, written_answer, part_lines, answer_lines, statement_lines, file_lines}
 use Rattle.alg_reading_back.proofs.WrittenStatements.{dot}
 use Rattle.alg_reading_back.proofs.WrittenTerms.{space, numeral}
@@ -39,9 +39,12 @@ module _ (file : File) (atoms : List Atom) where
       IsLine (indented (written_line file formats.One atoms l))
   line_is l whole two =
       let one = written_line file formats.One atoms l in
-      let few = few_left 0 (written_line file formats.Two atoms l).pieces dot (few_from 0 0 _ (two.few 0)) in
+      let few = few_left 0 (written_line file formats.Two atoms l).pieces dot (few_from 0 0 (indented
+      (written_line file formats.Two atoms l)).pieces (two.few 0)) in
       let here = few_dot one.pieces
-      (closes_both (cofactor_pieces file formats.One atoms l.m) _ (closes_cofactor file atoms formats.One l.m)
+      (closes_both (cofactor_pieces file formats.One atoms l.m)
+      (written_combined file formats.One atoms (pos l.i) l.b l.n l.j l.d).pieces
+      (closes_cofactor file atoms formats.One l.m)
       (closes_combined file atoms formats.One (pos l.i) l.b l.n l.j l.d)) (line_one file atoms l few) in
       record { whole = whole; few = λ at. few_at 0 at (indented one).pieces here }
 
@@ -50,11 +53,14 @@ module _ (file : File) (atoms : List Atom) where
       IsLine (indented (written_step file formats.One atoms s))
   step_is s whole two =
       let one = written_step file formats.One atoms s in
-      let few = few_left 0 (written_step file formats.Two atoms s).pieces dot (few_from 0 0 _ (two.few 0)) in
-      let here = few_dot one.pieces (closes_combined file atoms formats.One s.a s.b s.n s.j s.d) (step_one file atoms s few) in
+      let few = few_left 0 (written_step file formats.Two atoms s).pieces dot
+      (few_from 0 0 (indented (written_step file formats.Two atoms s)).pieces (two.few 0)) in
+      let here = few_dot one.pieces (closes_combined file atoms formats.One s.a s.b s.n s.j s.d)
+      (step_one file atoms s few) in
       record { whole = whole; few = λ at. few_at 0 at (indented one).pieces here }
 
-  lines_one : (ls : List Line) → AllByRecursion IsWhole (map (λ l. indented (written_line file formats.One atoms l)) ls) →
+  lines_one : (ls : List Line) → AllByRecursion IsWhole (map (λ l. indented
+      (written_line file formats.One atoms l)) ls) →
       AllByRecursion IsLine (map (λ l. indented (written_line file formats.Two atoms l)) ls) →
       AllByRecursion IsLine (map (λ l. indented (written_line file formats.One atoms l)) ls)
   lines_one [] whole two = tt
@@ -69,8 +75,10 @@ module _ (file : File) (atoms : List Atom) where
 
   -- the first line of a certificate has the same parentheses in both formats: none up to its power
   head_one : (constants : List ℤ) (power : ℕ) →
-      OpenFew 0 (space ∷ space ∷ ((power_front formats.Two ++ (numeral power ∷ if_pieces written_constant constants)) ++ dot)) →
-      OpenFew 0 (space ∷ space ∷ ((power_front formats.One ++ (numeral power ∷ if_pieces written_constant constants)) ++ dot))
+      OpenFew 0 (space ∷ space ∷ ((power_front formats.Two ++ (numeral power ∷ if_pieces written_constant constants))
+      ++ dot)) →
+      OpenFew 0 (space ∷ space ∷ ((power_front formats.One ++ (numeral power ∷ if_pieces written_constant constants))
+      ++ dot))
   head_one constants power few = (none_open, (none_open, few.1.1.1.1))
 
   -- the lines of an answer
@@ -83,13 +91,17 @@ module _ (file : File) (atoms : List Atom) where
       ∷ part_lines file formats.One atoms said)
   answer_one (answer.Certified constants cert) whole two =
       let one = indented (written_answer file formats.One atoms (answer.Certified constants cert)) in
-      let lines : Format → List WrittenLine = λ format. map (λ l. indented (written_line file format atoms l)) cert.lines in
-      let steps : Format → List WrittenLine = λ format. map (λ s. indented (written_step file format atoms s)) cert.steps in
+      let lines : Format → List WrittenLine = λ format. map (λ l. indented
+      (written_line file format atoms l)) cert.lines in
+      let steps : Format → List WrittenLine = λ format. map (λ s. indented
+      (written_step file format atoms s)) cert.steps in
       let (whole_lines, whole_steps) = all_split IsWhole (lines formats.One) (steps formats.One) whole.1 in
       let (two_lines, two_steps) = all_split IsLine (lines formats.Two) (steps formats.Two) two.1 in (
         record {
           whole = whole.0;
-          few = λ at. few_at 0 at one.pieces (head_one constants cert.power (few_from 0 0 _ (two.0.few 0)));
+          few = λ at. few_at 0 at one.pieces (head_one constants cert.power (few_from 0 0
+              (indented (written_answer file formats.Two atoms (answer.Certified constants cert))).pieces
+              (two.0.few 0)));
         },
         all_append IsLine (lines formats.One) (steps formats.One) (lines_one cert.lines whole_lines two_lines)
             (steps_one cert.steps whole_steps two_steps),

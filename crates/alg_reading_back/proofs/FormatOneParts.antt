@@ -25,7 +25,8 @@ none_open = omega arith
 module _ (file : File) (atoms : List Atom) where
   pub closes_cofactor : (format : Format) (m : Monomial) → Closes (cofactor_pieces file format atoms m)
   closes_cofactor formats.One m =
-      closes_both (written_mono file atoms m).pieces (sign signs.Comma ∷ space ∷ []) (closes_mono file atoms m) (λ d. refl)
+      closes_both (written_mono file atoms m).pieces (sign signs.Comma ∷ space ∷ []) (closes_mono file atoms m)
+      (λ d. refl)
   closes_cofactor formats.Two [] = λ d. refl
   closes_cofactor formats.Two (e ∷ m) =
       closes_both (written_mono file atoms (e ∷ m)).pieces (sign signs.Comma ∷ space ∷ [])
@@ -35,7 +36,8 @@ module _ (file : File) (atoms : List Atom) where
   few_behind : (front back : List Piece) → Closes front → OpenFew 0 (front ++ back) → OpenFew 0 back
   few_behind front back closes few = subst (λ d. OpenFew d back) (closes 0) (few_right 0 front back few)
 
-  pub few_before : (front back : List Piece) → Closes front → OpenFew 0 front → OpenFew 0 back → OpenFew 0 (front ++ back)
+  pub few_before : (front back : List Piece) → Closes front → OpenFew 0 front → OpenFew 0 back → OpenFew 0
+      (front ++ back)
   few_before front back closes one other =
       few_both 0 front back one (subst (λ d. OpenFew d back) (sym (closes 0)) other)
 
@@ -101,7 +103,8 @@ module _ (file : File) (atoms : List Atom) where
                 (closes_cofactor formats.One l.m)
                 (cofactor_one l.m (few_left 0 (cofactor_pieces file formats.Two atoms l.m) two.pieces there))
                 (combined_one (pos l.i) l.b l.n l.j l.d
-                (few_behind (cofactor_pieces file formats.Two atoms l.m) two.pieces (closes_cofactor formats.Two l.m) there)),
+                (few_behind (cofactor_pieces file formats.Two atoms l.m) two.pieces
+                (closes_cofactor formats.Two l.m) there)),
           ),
         ),
       )

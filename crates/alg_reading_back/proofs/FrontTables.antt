@@ -91,7 +91,8 @@ module _ (file : File) (valid : IsValid file) (before after : List Statement) wh
   -- a statement without hypotheses adds none
   no_new : (s : Statement) → length (declared_by s).hyps ≡ 0 → (h : ℕ) → hyps_in before ≤ h →
       h < hyps_in (before ++ s ∷ []) → ⊥
-  no_new s none h high low = let count = count_with (λ s. (declared_by s).hyps) before s in omega (arith, count, none, high, low)
+  no_new s none h high low = let count = count_with (λ s. (declared_by s).hyps) before s in omega
+      (arith, count, none, high, low)
 
   new_named : (s : Statement) → file.order ≡ before ++ (s ∷ after) → (h : ℕ) → hyps_in before ≤ h →
       h < hyps_in (before ++ s ∷ []) → AreInRange (front file before) (hyp_at file h).equation

@@ -84,3 +84,4 @@ pub mod DerivedConditions
 pub mod SpelledAnswerLines
 pub mod FormatOneParts
 pub mod PartsTaken
+pub mod AnsweredRules

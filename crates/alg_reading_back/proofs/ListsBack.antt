@@ -29,7 +29,8 @@ of_none f (x ∷ xs) [] are = absurd are
 of_none f (x ∷ xs) (r ∷ rs) (is, are) = two_empty (f r) (flat_map f rs) is (of_none f xs rs are)
 
 -- what follows of each
-pub of_weaker : {X R : Type 0} (P Q : X → R → Type 0) → ((x : X) (r : R) → P x r → Q x r) → (xs : List X) (rs : List R) →
+pub of_weaker : {X R : Type 0} (P Q : X → R → Type 0) → ((x : X) (r : R) → P x r → Q x r) → (xs : List X)
+    (rs : List R) →
     AreOf P xs rs → AreOf Q xs rs
 of_weaker P Q f [] [] are = tt
 of_weaker P Q f [] (r ∷ rs) are = absurd are

@@ -1,5 +1,5 @@
 -- The raw lines and steps of a canonical text come back as the lines and steps, without fault, behind their answer.
-use Rattle.std.proofs.Common.{◌≡◌, ℕ, ◌+◌, true, false, cond, List, [], ◌∷◌, ◌++◌, length, Some, None, ℤ, pos, refl, sym, ap, ◌∙◌}
+use Rattle.std.proofs.Common.{◌≡◌, ℕ, ◌+◌, true, false, cond, List, [], ◌∷◌, ◌++◌, length, decimal, Some, None, ℤ, pos, refl, sym, ap, ◌∙◌}
 use Rattle.std.specs.Fmt.{signed_decimal}
 use Rattle.std.specs.Ordering.{int_eq}
 use Rattle.std.specs.Prelude.{unwrap_or}
@@ -73,7 +73,8 @@ module _ (file g : File) (text : List ℕ) (distinct : AreDistinct (names_of g))
       let behind = pieces_at_right text b_at (written_integer b).pieces (sign signs.Comma ∷ space ∷ from_n)
       placed.1.1.1.1 in
       let n_at = b_at + width (written_integer b).pieces + 1 + 1 in
-      cofactor_back format n is n_at start (pieces_at_left text n_at (cofactor_pieces file format atoms n) end behind.1.1)
+      cofactor_back format n is n_at start (pieces_at_left text n_at
+      (cofactor_pieces file format atoms n) end behind.1.1)
 
   -- a line that comes back: it has no faults of names and no others, and is the line
   pub record IsLineBack (l : Line) (a : RawNumber) (m : RawMono) (i b : RawNumber) (n : RawMono)
@@ -111,7 +112,7 @@ module _ (file g : File) (text : List ℕ) (distinct : AreDistinct (names_of g))
         names = two_empty _ _ m.names n.names;
         clear = two_empty _ _ (two_empty _ _ (two_empty _ _ m.clear (count_clear l.i c.first.at is.i)) n.clear)
             (count_clear l.j c.j.at is.j);
-        same = line_by l _ _ _ m.same n.same (divisor_back format l.d _ at);
+        same = line_by l _ _ _ m.same n.same (divisor_back format l.d (c.j.at + length (decimal l.j)) at);
       }
 
   -- a step that comes back
@@ -136,5 +137,5 @@ module _ (file g : File) (text : List ℕ) (distinct : AreDistinct (names_of g))
       record {
         names = n.names;
         clear = two_empty _ _ n.clear (count_clear s.j c.j.at is.j);
-        same = step_by s _ _ n.same (divisor_back format s.d _ at);
+        same = step_by s _ _ n.same (divisor_back format s.d (c.j.at + length (decimal s.j)) at);
       }

@@ -63,7 +63,8 @@ clear_fault g text raw shallow names faults =
     ∙ ap (λ fs. option_or (first_of fs) others) names ∙ ap first_of faults
 
 -- the pieces of a statement behind two spaces
-pub indented_there : (text : List ℕ) (said : Written RawKind) (at : ℕ) → PiecesAt text at (line_pieces (indented said).pieces) →
+pub indented_there : (text : List ℕ) (said : Written RawKind) (at : ℕ) → PiecesAt text at (line_pieces
+    (indented said).pieces) →
     PiecesAt text (at + 1 + 1) said.pieces
 indented_there text said at placed =
     pieces_at_left text (at + 1 + 1) said.pieces dot
@@ -133,7 +134,8 @@ module _ (file g : File) (text : List ℕ) (distinct : AreDistinct (names_of g))
       IsWay now at lines end
   go_on now next end at lines same way = subst (λ s. IsWay s at lines end) (sym same) way
 
-  pub lines_taken : (constants : List ℤ) (power : ℕ) (ls done : List Line) (at : ℕ) → AllByRecursion (IsLineOver atoms) ls →
+  pub lines_taken : (constants : List ℤ) (power : ℕ) (ls done : List Line) (at : ℕ) → AllByRecursion
+      (IsLineOver atoms) ls →
       PiecesAt text at (lines_pieces (map write_line ls)) →
       IsWay (answered g given (certified constants power done []) (lines_place format)) at (map write_line ls)
       (answered g given (certified constants power (done ++ ls) []) (lines_place format))
@@ -156,7 +158,8 @@ module _ (file g : File) (text : List ℕ) (distinct : AreDistinct (names_of g))
       (with_last-append (with_part g text (goal_atoms g (last_goal g)) kind) given said
       ∙ ap (λ a. given ++ with_part g text a kind said ∷ []) atoms_same
       ∙ ap (λ x. given ++ with_line x said ∷ []) back.same) in
-      let later = subst (λ xs. IsWay next (behind line at) others (answered g given (certified constants power xs []) p))
+      let later = subst (λ xs. IsWay next (behind line at) others (answered g given
+      (certified constants power xs []) p))
       (append_assoc done (l ∷ []) ls) (lines_taken constants power ls further (behind line at) all.1 rest) in (
         said_statement p (written_line file format atoms l).pieces (at + 1 + 1) kind
             (line_said format _ _ (line_derived file format atoms l (at + 1 + 1))),
@@ -175,7 +178,8 @@ module _ (file g : File) (text : List ℕ) (distinct : AreDistinct (names_of g))
   LeadsTo now at lines said = (q : Place) × IsWay now at lines (answered g given said q)
 
   pub steps_taken : (constants : List ℤ) (power : ℕ) (ls : List Line) (ss done : List GoalStep) (p : Place) (at : ℕ) →
-      IsStepPlace format p → AllByRecursion (IsStepOver atoms) ss → PiecesAt text at (lines_pieces (map write_step ss)) →
+      IsStepPlace format p → AllByRecursion (IsStepOver atoms) ss → PiecesAt text at (lines_pieces
+      (map write_step ss)) →
       LeadsTo (answered g given (certified constants power ls done) p) at (map write_step ss)
       (certified constants power ls (done ++ ss))
   steps_taken constants power ls [] done p at is all placed =
@@ -197,8 +201,10 @@ module _ (file g : File) (text : List ℕ) (distinct : AreDistinct (names_of g))
       ∙ ap (λ a. given ++ with_part g text a kind said ∷ []) atoms_same
       ∙ ap (λ x. given ++ with_step x said ∷ []) back.same) in
       let (q, taken) =
-      steps_taken constants power ls ss further (steps_of p) (behind line at) (next_step_place format p is) all.1 rest in
-      let later = subst (λ xs. IsWay next (behind line at) others (answered g given (certified constants power ls xs) q))
+      steps_taken constants power ls ss further (steps_of p) (behind line at)
+      (next_step_place format p is) all.1 rest in
+      let later = subst (λ xs. IsWay next (behind line at) others (answered g given
+      (certified constants power ls xs) q))
       (append_assoc done (s ∷ []) ss) taken in (
         q,
         (

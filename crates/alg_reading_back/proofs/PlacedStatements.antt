@@ -60,7 +60,8 @@ pair_placed place (pair v d) ts kind fits spells says =
     )
 pair_placed place _ ts kind fits spells says = absurd fits
 
-node_placed : (place : Place) (q : Rule) (w : Tree) (ts : List Token) (kind : RawKind) → rules.Statement places.Plain ≡ q →
+node_placed : (place : Place) (q : Rule) (w : Tree) (ts : List Token) (kind : RawKind) → rules.Statement places.Plain
+    ≡ q →
     Fits (grammar (rules.Statement places.Plain)) w → spelled w ≡ ts → act q (value w) ≡ kind_value kind →
     IsStatement place ts kind
 unfolding grammar act

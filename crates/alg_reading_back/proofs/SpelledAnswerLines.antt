@@ -167,14 +167,16 @@ cert_spelled : (format : Format) (file : File) (goal : Goal) (constants : List �
 cert_spelled formats.One file goal constants cert =
     let atoms = goal_atoms file goal in
     head_and_parts formats.One file atoms (answer.Certified constants cert)
-    ∙ ap (λ bs. ((codes "  " ++ body_text file formats.One atoms (answer.Certified constants cert)) ++ codes ".\n") ++ bs)
+    ∙ ap (λ bs. ((codes "  " ++ body_text file formats.One atoms (answer.Certified constants cert)) ++ codes ".\n")
+    ++ bs)
     (parts_spelled formats.One file atoms cert.lines cert.steps)
     ∙ cert_regrouped (codes "  proved power ") (decimal cert.power) (constants_text constants) (codes ".\n")
     (flat_map (line_one_of file atoms) cert.lines) (flat_map (step_one_of file atoms) cert.steps)
 cert_spelled formats.Two file goal constants cert =
     let atoms = goal_atoms file goal in
     head_and_parts formats.Two file atoms (answer.Certified constants cert)
-    ∙ ap (λ bs. ((codes "  " ++ body_text file formats.Two atoms (answer.Certified constants cert)) ++ codes ".\n") ++ bs)
+    ∙ ap (λ bs. ((codes "  " ++ body_text file formats.Two atoms (answer.Certified constants cert)) ++ codes ".\n")
+    ++ bs)
     (parts_spelled formats.Two file atoms cert.lines cert.steps)
     ∙ cert_regrouped (codes "  proved version 2 power ") (decimal cert.power) (constants_text constants) (codes ".\n")
     (flat_map (line_text file atoms) cert.lines) (flat_map (step_text file atoms) cert.steps)

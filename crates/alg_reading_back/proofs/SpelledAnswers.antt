@@ -68,7 +68,8 @@ body_text file format atoms (answer.Certified constants cert) =
 body_text file format atoms (answer.No at left right) =
     codes "no at " ++ (mono_text file atoms at ++ (codes " : " ++ (signed_decimal left
     ++ (codes " and " ++ signed_decimal right))))
-body_text file format atoms (answer.ZeroDenominator denominator) = codes "zero denominator " ++ term_text file denominator
+body_text file format atoms (answer.ZeroDenominator denominator) = codes "zero denominator " ++ term_text file
+    denominator
 body_text file format atoms (answer.NoneUpTo power) = codes "none up to power " ++ decimal power
 body_text file format atoms (answer.GaveUp limit) = codes "gave up after " ++ decimal limit
 body_text file format atoms answer.Atoms = codes "atoms"
@@ -122,7 +123,8 @@ over_text_of formats.Two d = over_text d
 spelled_cofactor : (file : File) (format : Format) (atoms : List Atom) (m : Monomial) →
     spell (cofactor_pieces file format atoms m) ≡ cofactor_text file format atoms m
 spelled_cofactor file formats.One atoms m =
-    spelled_before (written_mono file atoms m).pieces (sign signs.Comma ∷ space ∷ []) _ _ (spelled_mono file atoms m) refl
+    spelled_before (written_mono file atoms m).pieces (sign signs.Comma ∷ space ∷ []) _ _
+    (spelled_mono file atoms m) refl
 spelled_cofactor file formats.Two atoms [] = refl
 spelled_cofactor file formats.Two atoms (e ∷ m) =
     spelled_before (written_factors file atoms e m).pieces (sign signs.Comma ∷ space ∷ []) _ _

@@ -11,7 +11,8 @@ spelled_separator comma = refl
 module _ {X R : Type 0} (write : X → Written R) (s : Separator) (text : X → List ℕ)
     (spelled : (x : X) → spell (write x).pieces ≡ text x) where
   -- one, with what follows it
-  followed : (x : X) (xs : List X) → spell (later_pieces write s xs) ≡ listed (separator_text s) (separator_text s) text xs →
+  followed : (x : X) (xs : List X) → spell (later_pieces write s xs) ≡ listed (separator_text s)
+      (separator_text s) text xs →
       spell (list_pieces write s x xs) ≡ text x ++ listed (separator_text s) (separator_text s) text xs
   followed x xs later =
       spell_append (write x).pieces (later_pieces write s xs)
