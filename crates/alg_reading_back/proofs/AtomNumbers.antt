@@ -92,8 +92,8 @@ number_there (a ∷ atoms) once zero low =
     ap (λ b. cond (not b) (1 + number_of atoms a) 0) ((atoms_decide a a).1 refl)
 number_there (a ∷ atoms) once (suc k) low =
     let rest = number_there atoms once.1 k (omega arith) in
-    ap (λ b. cond (not b) (1 + number_of atoms (atom_at atoms k)) 0) (behind a atoms k (omega arith) once.0)
-    ∙ omega (arith, rest)
+    let more : 1 + number_of atoms (atom_at atoms k) ≡ suc k = omega (arith, rest) in
+    ap (λ b. cond (not b) (1 + number_of atoms (atom_at atoms k)) 0) (behind a atoms k (omega arith) once.0) ∙ more
 
 -- where the number is one of the table, the atom is found there
 found_there : (n m : ℕ) → n < m → not (is_some (cond (nat_lt n m) (Some n) None)) ≡ false
