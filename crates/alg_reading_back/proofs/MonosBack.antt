@@ -37,7 +37,6 @@ use Rattle.alg_typing.proofs.Growing.{Grows}
 use Rattle.alg_typing.proofs.SortsClear.{no_cause}
 use Rattle.alg_annotated.specs.Monomials.{atom_names, atom_of, exponent_of, factor_names, factor_atom, factor_fault, factor_pair, factors_of, mono_names, mono_faults, monomial_of, written_degree}
 use Rattle.alg_annotated.proofs.AtomNames.{names_apart, atom_apart}
-use Rattle.alg_annotated.proofs.ClearMonomials.{pairs_degree}
 use Rattle.alg_reify.specs.Numbered.{number_of}
 use Rattle.alg_reify.specs.Table.{atom_eq}
 use Rattle.alg_printer.specs.Monomials.{atom_at, no_atom, IsAtomOf}
@@ -198,11 +197,16 @@ module _ (file g : File) (text : List ℕ) (distinct : AreDistinct (names_of g))
       pub clear : mono_faults g text atoms raw ≡ []
       pub same : monomial_of g text atoms raw ≡ m
 
+    -- the exponents of the pairs are those of the factors
+    pairs_degree : (fs : List RawFactor) → degree (map (factor_pair g text atoms) fs) ≡ sum_by exponent_of fs
+    pairs_degree [] = refl
+    pairs_degree (f ∷ fs) = ap (λ n. exponent_of f + n) (pairs_degree fs)
+
     degree_low : (m : Monomial) (start : ℕ) (fs : List RawFactor) → map (factor_pair g text atoms) fs ≡ m →
         degree m ≤ MAX_DEGREE → nat_lt MAX_DEGREE (written_degree (mono_of start fs)) ≡ false
     degree_low m start fs pairs small =
         let written : written_degree (mono_of start fs) ≡ degree m =
-        ap (sum_by exponent_of) (factors_back start fs) ∙ sym (pairs_degree g text atoms fs) ∙ ap degree pairs in
+        ap (sum_by exponent_of) (factors_back start fs) ∙ sym (pairs_degree fs) ∙ ap degree pairs in
         let low : written_degree (mono_of start fs) ≤ MAX_DEGREE = omega (arith, written, small) in
         grind (arith, nat_tests)
 
