@@ -26,7 +26,7 @@ use Rattle.alg_typing.proofs.GrowingTerms.{range_same}
 use Rattle.alg_printer.specs.Monomials.{IsAtomOf}
 use Rattle.alg_printer.proofs.Leaves.{AreAtoms, equation_has}
 use Rattle.alg_reading_back.proofs.Closed.{IsClosed}
-use Rattle.alg_reading_back.proofs.Fronts.{front, hyps_in, grows, next}
+use Rattle.alg_reading_back.proofs.Fronts.{front, goals_in, hyps_in, grows, next}
 use Rattle.alg_reading_back.proofs.GoalsBack.{range, uses_range}
 use Rattle.alg_reading_back.proofs.NextLists.{next_item}
 use Rattle.alg_reading_back.proofs.Steps.{count_with}
@@ -219,4 +219,4 @@ module _ (file : File) (valid : IsValid file) (before after : List Statement) (i
   goal_is_last =
       let item = next_item (λ s. (declared_by s).goals) file.goals no_goal before (statement.Goal i) i
       (next file valid.ordered before after (statement.Goal i) split).goals refl in
-      subst (λ gs. slice_index_or gs (length gs - 1) no_goal ≡ goal) item.items (last_is _ goal no_goal)
+      subst (λ gs. slice_index_or gs (length gs - 1) no_goal ≡ goal) item.items (last_is (take (goals_in before) file.goals) goal no_goal)

@@ -2,6 +2,7 @@
 use Rattle.std.proofs.Common.{◌≤◌, ◌<◌, ℕ, true, false, cond, nat_lt, List, [], ◌∷◌, ◌++◌, length, refl, sym, subst, arith, append-nil, ℤ, pos, negsuc, suc}
 use Rattle.std.specs.List.{AllByRecursion}
 use Rattle.std.proofs.lemmas.Int.{ints}
+use Rattle.std.proofs.lemmas.List.Sums.{sum_by-cons}
 use Rattle.std.proofs.lemmas.List.Elements.{All-get_or, recursion_from_All}
 use Rattle.alg_mono.specs.Mono.{Monomial}
 use Rattle.alg_mono.specs.Monomials.{degree}
@@ -29,7 +30,8 @@ entries : (atoms : List Atom) (m : Monomial) → degree m ≤ 1000 → AllByRecu
     AllByRecursion (IsEntry atoms) m
 entries atoms [] low over = tt
 entries atoms (e ∷ m) low over =
-    (record { atom = over.0; exponent = omega arith }, entries atoms m (omega arith) over.1)
+    let sum = sum_by-cons (λ (e : ℕ × ℕ). e.1) e m in
+    (record { atom = over.0; exponent = omega (arith, sum, low) }, entries atoms m (omega (arith, sum, low)) over.1)
 
 pub entries_of : (atoms : List Atom) (m : Monomial) → IsMonomialOver atoms m → AllByRecursion (IsEntry atoms) m
 entries_of atoms m is = entries atoms m is.canonical.small (recursion_from_All (λ e. e.0 < length atoms) m is.over)

@@ -9,6 +9,7 @@ use Rattle.std.specs.List.{AllByRecursion}
 use Rattle.std.specs.Option.{option_map_or}
 use Rattle.std.specs.Ordering.{nat_cmp}
 use Rattle.std.proofs.lemmas.Bool.Decides.{nat_tests}
+use Rattle.std.proofs.lemmas.List.Sums.{sum_by-cons}
 use Rattle.std.proofs.lemmas.List.Elements.{All-get_or, recursion_from_All}
 use Rattle.alg_mono.specs.FiniteMaps.{all_some, collect}
 use Rattle.alg_mono.specs.Mono.{Monomial}
@@ -200,7 +201,9 @@ module _ (file g : File) (text : List ℕ) (distinct : AreDistinct (names_of g))
     -- the exponents of the pairs are those of the factors
     pairs_degree : (fs : List RawFactor) → degree (map (factor_pair g text atoms) fs) ≡ sum_by exponent_of fs
     pairs_degree [] = refl
-    pairs_degree (f ∷ fs) = ap (λ n. exponent_of f + n) (pairs_degree fs)
+    pairs_degree (f ∷ fs) =
+        sum_by-cons (λ (e : ℕ × ℕ). e.1) (factor_pair g text atoms f) (map (factor_pair g text atoms) fs)
+        ∙ ap (λ n. exponent_of f + n) (pairs_degree fs) ∙ sym (sum_by-cons exponent_of f fs)
 
     degree_low : (m : Monomial) (start : ℕ) (fs : List RawFactor) → map (factor_pair g text atoms) fs ≡ m →
         degree m ≤ MAX_DEGREE → nat_lt MAX_DEGREE (written_degree (mono_of start fs)) ≡ false
