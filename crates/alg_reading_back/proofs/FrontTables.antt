@@ -1,5 +1,5 @@
 -- The table of a goal in the front of a file that ends with it is the goal's, and its atoms are of the front.
-use Rattle.std.proofs.Common.{◌≡◌, ◌<◌, ◌≤◌, inl, inr, ℕ, ◌+◌, ◌-◌, true, false, nat_le, List, [], ◌∷◌, ◌++◌, flat_map, length, take, refl, sym, ap, ◌∙◌, subst, arith, if◌then◌else◌, length-append}
+use Rattle.std.proofs.Common.{◌≡◌, ◌<◌, ◌≤◌, inl, inr, ℕ, ◌-◌, true, false, nat_le, List, [], ◌∷◌, ◌++◌, flat_map, length, take, refl, sym, ap, ◌∙◌, subst, arith, if◌then◌else◌, length-append}
 use Rattle.std.specs.Prelude.{Bool, slice_index_or}
 use Rattle.std.specs.List.{AllByRecursion}
 use Rattle.std.proofs.lemmas.Bool.{cases_lt}
