@@ -118,8 +118,6 @@ opened said = said
 
 module _ (file g : File) (text : List ℕ) (distinct : AreDistinct (names_of g)) (grows : Grows g file)
     (closed : IsClosed g) (goal : Goal) (low : goal.equation.sort < length g.sorts) where
-  -- ---- terms
-
   -- a term that comes back: its names and its sorts have no faults in an answer to the goal
   pub record IsTermBack (t : Term) (raw : RawTerm) : Type 0 where
     pub term : term_of g text raw ≡ t
@@ -167,8 +165,6 @@ module _ (file g : File) (text : List ℕ) (distinct : AreDistinct (names_of g))
   condition_there : (t : Term) (at : ℕ) → IsTermThere t → PiecesAt text at (written_condition file t).pieces →
       IsTermBack t ((written_condition file t).raw at)
   condition_there t at is placed = term_there t at is (pieces_at_left text at (written file t).pieces not_zero placed)
-
-  -- ---- answers
 
   abbrev atoms : List Atom
   atoms = goal_atoms file goal

@@ -219,4 +219,5 @@ module _ (file : File) (valid : IsValid file) (before after : List Statement) (i
   goal_is_last =
       let item = next_item (λ s. (declared_by s).goals) file.goals no_goal before (statement.Goal i) i
       (next file valid.ordered before after (statement.Goal i) split).goals refl in
-      subst (λ gs. slice_index_or gs (length gs - 1) no_goal ≡ goal) item.items (last_is (take (goals_in before) file.goals) goal no_goal)
+      subst (λ gs. slice_index_or gs (length gs - 1) no_goal ≡ goal) item.items
+      (last_is (take (goals_in before) file.goals) goal no_goal)

@@ -19,7 +19,7 @@ use Rattle.alg_reading_back.proofs.WrittenLists.{Written}
 use Rattle.alg_reading_back.proofs.WrittenStatements.{WrittenStatement, written_goal, written_statement, dot}
 use Rattle.alg_reading_back.proofs.WrittenTerms.{space, line_feed}
 
--- a line without its line feed: its pieces, where its first token begins, and what it says, by the place where it begins
+-- a line without its line feed: its pieces, and by its place where its first token begins and what it says
 pub record WrittenLine : Type 0 where
   pub pieces : List Piece
   pub first : ℕ → ℕ
