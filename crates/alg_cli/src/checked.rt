@@ -64,7 +64,8 @@ fn reports_on(alloc: Global, all: &Annotated) -> Result<Vec<GoalCheck>, AllocErr
     let mut reports = Vec::new(alloc);
     for number in 0..all.file.goals.items().len() as u32 {
         let answer = answers[number as usize].as_ref();
-        reports.push(check_goal(alloc, &all.file, number, answer)?)?;
+        let report = check_goal(alloc, &all.file, number, answer)?;
+        reports.push(report)?;
     }
     Ok(reports)
 }

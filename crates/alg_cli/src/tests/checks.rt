@@ -1,7 +1,7 @@
 //! Files with answers, and what `check` reports on them.
 
-use super::rows::Row;
-use super::run_of;
+use super::rows::{self, Row};
+use super::{by_field, by_nsatz, joined, nsatz_limits, run_of};
 use crate::status::Status;
 use std::test::Fail;
 
@@ -129,6 +129,43 @@ fn each_goal_has_the_report_on_its_answer(rt: HostRuntime) -> Result<(), Fail> {
             let shows = row.shows;
             assert_eq!(rt; output.as_slice(), row.output.as_bytes(), "{shows}");
             assert_eq!(rt; status, row.status, "{shows}");
+        }
+    }
+    Ok(())
+}
+
+/// Of what `prove` writes each proof is accepted, and each other answer by ring and by field; another
+/// one by nsatz is not checked.
+#[test]
+fn what_is_answered_is_accepted(rt: HostRuntime) -> Result<(), Fail> {
+    for (answered, other) in [
+        (rows::ANSWERED.as_slice(), ("goal 1: ok\n", Status::Done)),
+        (
+            by_field::ANSWERED.as_slice(),
+            ("goal 1: ok\n", Status::Done),
+        ),
+        (
+            by_nsatz::ANSWERED.as_slice(),
+            ("goal 1: unchecked\n", Status::NotAll),
+        ),
+        (
+            nsatz_limits::ANSWERED.as_slice(),
+            ("goal 1: unchecked\n", Status::NotAll),
+        ),
+    ] {
+        for row in answered {
+            let (wanted, ending) = if row.answer.is_empty() {
+                ("", Status::Done)
+            } else if row.status == Status::Done {
+                ("goal 1: ok proved\n", Status::Done)
+            } else {
+                other
+            };
+            let input = joined(rt.alloc(), row.file, row.answer)?;
+            let (output, status) = run_of(rt.alloc(), "check", input)?;
+            let shows = row.shows;
+            assert_eq!(rt; output.as_slice(), wanted.as_bytes(), "{shows}");
+            assert_eq!(rt; status, ending, "{shows}");
         }
     }
     Ok(())

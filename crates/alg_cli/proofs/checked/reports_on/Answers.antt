@@ -22,12 +22,12 @@ pub loop-number-preserved : goal.loop-number-preserved
 loop-number-preserved c =
     let all = c.args.all.now in
     let number = c.loop-number.number in
-    let report = c.in_ok-check_goal.field-0 in
+    let report = c.in_ok-report.report in
     let After : List GoalCheck → Type 0 = AreFirst all (number + 1) in
     let read : option_copied c.as_ref.result ≡ slice_index_or all.answers number None = search rules in
     subst After (sym c.in_ok-push.ensures.items)
     (next_report all number c.loop-number.reports.items report c.loop-number.invariant
-    (subst (λ answer. IsReport all.file (goal_at all.file number) answer report) read c.in_ok-check_goal.ensures))
+    (subst (λ answer. IsReport all.file (goal_at all.file number) answer report) read c.in_ok-report.ensures))
 
 -- all goals have theirs
 pub returns : goal.returns
