@@ -1,12 +1,12 @@
 -- The report on the answer to a goal.
-use Rattle.std.specs.Prelude.{◌≡◌, ◌+◌, ◌^◌, ◌<◌, ◌≤◌, ◌⊎◌, ℕ, ℤ, List, length, slice_get, slice_index_or, Option, Some, None}
+use Rattle.std.specs.Prelude.{◌≡◌, ◌+◌, ◌^◌, ◌<◌, ◌≤◌, ◌⊎◌, ℕ, ℤ, List, length, Option, Some, None}
 use Rattle.alg_terms.specs.declared.file.File.{File}
 use Rattle.alg_terms.specs.declared.goals.Equation.{Equation}
 use Rattle.alg_terms.specs.declared.goals.Goal.{Goal}
 use Rattle.alg_terms.specs.declared.goals.Method.{Method}
 use Rattle.alg_terms.specs.declared.goals.Method.TheVariants.{ByRing, ByField, ByNsatz}
 use Rattle.alg_terms.specs.declared.goals.Use.{Use}
-use Rattle.alg_terms.specs.Members.{goal_at, sort_at}
+use Rattle.alg_terms.specs.Members.{sort_at}
 use Rattle.alg_mono.specs.NumberedPolynomials.{Polynomial}
 use Rattle.alg_mono.specs.Outcomes.{Outcome}
 use Rattle.alg_lines.specs.declared.answer.Answer.{Answer}
@@ -85,12 +85,6 @@ IsReportBy file e (ByNsatz uses power limit) answer report = IsNsatzReport file 
 abbrev pub IsReport : File → Goal → Option Answer → GoalCheck → Type 0
 IsReport file goal None report = report ≡ GoalCheck.Unchecked
 IsReport file goal (Some answer) report = IsReportBy file goal.equation goal.method answer report
-
--- there is one report for each goal of the file, in their order, on its answer or on its having none
-pub record AreReports (file : File) (answers : List (Option Answer)) (reports : List GoalCheck) : Type 0 where
-  pub count : length reports ≡ length file.goals
-  pub each : (i : ℕ) (report : GoalCheck) → slice_get reports i ≡ Some report →
-      IsReport file (goal_at file i) (slice_index_or answers i None) report
 
 -- a certificate's lines and steps are together with the uses fewer than 2^31
 abbrev pub IsFew : List Use → Answer → Type 0

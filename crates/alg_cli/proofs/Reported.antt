@@ -10,7 +10,7 @@ use Rattle.alg_annotated.specs.declared.annotated.Annotated.{Annotated}
 use Rattle.alg_annotated.specs.Kept.{AreAnswersTo, lines_in, size_of}
 use Rattle.alg_annotated.specs.Reading.{IsAnnotatedReadingOf}
 use Rattle.alg_check.specs.Laws.{OneReport, ProvedIsRight}
-use Rattle.alg_check.specs.Reports.{AreReports, IsFew, IsReport}
+use Rattle.alg_check.specs.Reports.{IsFew, IsReport}
 use Rattle.alg_lines.specs.declared.answer.Answer.{Answer}
 use Rattle.alg_lines.specs.declared.answer.GoalCheck.{GoalCheck}
 use Rattle.alg_lines.specs.declared.answer.GoalCheck.TheVariants.{OkProved, Unchecked}
@@ -23,7 +23,7 @@ use Rattle.alg_terms.specs.Valid.{IsValid}
 use Rattle.alg_universe.specs.declared.universe.Universe.{Ghosts}
 use Rattle.alg_cli.specs.declared.command.Command.TheVariants as command
 use Rattle.alg_cli.specs.declared.status.Status.{Status}
-use Rattle.alg_cli.specs.Checked.{IsCheckReply, IsRightAsPrinted, ReportedAreRight}
+use Rattle.alg_cli.specs.Checked.{AreReports, IsCheckReply, IsRightAsPrinted, ReportedAreRight}
 use Rattle.alg_cli.specs.Commands.{most_bytes}
 use Rattle.alg_cli.specs.Replies.{IsReplyTo}
 

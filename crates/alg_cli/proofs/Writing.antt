@@ -8,7 +8,6 @@ use Rattle.alg_annotated.specs.declared.annotated.Annotated.{Annotated}
 use Rattle.alg_annotated.specs.Laws.{OneAnnotatedReading}
 use Rattle.alg_annotated.specs.Reading.{IsAnnotatedReadingOf}
 use Rattle.alg_check.specs.Laws.{OneReport}
-use Rattle.alg_check.specs.Reports.{AreReports}
 use Rattle.alg_terms.specs.declared.file.File.{File}
 use Rattle.alg_tokens.specs.declared.token.Refusal.{Refusal}
 use Rattle.alg_typing.specs.Laws.{OneReading}
@@ -21,7 +20,7 @@ use Rattle.alg_cli.specs.declared.command.Command.{Command}
 use Rattle.alg_cli.specs.declared.command.Command.TheVariants as command
 use Rattle.alg_cli.specs.declared.status.Status.{Status}
 use Rattle.alg_cli.specs.declared.status.Status.TheVariants.{Done, NotAll, Refused, Usage, ReadFault, WriteFault, NoMemory}
-use Rattle.alg_cli.specs.Checked.{IsReported, status_of_reports}
+use Rattle.alg_cli.specs.Checked.{AreReports, IsReported, status_of_reports}
 use Rattle.alg_cli.specs.Replies.{IsReplyTo, IsReplyWithin, IsRefused, IsAnswered, IsSummary, refusal_text, summary_text, status_of}
 use Rattle.alg_cli.specs.Runs.{SinkChange, IsFailure, WritesByStatus, WritesAll, WritesPrefix}
 use Rattle.alg_cli.proofs.Reported.{one_list}

@@ -1,19 +1,26 @@
 -- The reports on the answers that a file has, and what they say.
-use Rattle.std.specs.Prelude.{◌≡◌, ℕ, Bool, true, false, if◌then◌else◌, List, Option, None, Some, Ok, slice_get, slice_index_or}
+use Rattle.std.specs.Prelude.{◌≡◌, ℕ, Bool, true, false, if◌then◌else◌, List, Option, None, Some, Ok, length, slice_get, slice_index_or}
 use Rattle.std.specs.List.{list_all}
 use Rattle.alg_annotated.specs.declared.annotated.Annotated.{Annotated}
 use Rattle.alg_annotated.specs.Reading.{IsAnnotatedReadingOf}
 use Rattle.alg_check.specs.Laws.{printed_conditions, printed_constants}
-use Rattle.alg_check.specs.Reports.{AreReports}
+use Rattle.alg_check.specs.Reports.{IsReport}
 use Rattle.alg_lines.specs.declared.answer.Answer.{Answer}
 use Rattle.alg_lines.specs.declared.answer.GoalCheck.{GoalCheck}
 use Rattle.alg_lines.specs.declared.answer.GoalCheck.TheVariants.{OkProved, OkOther}
 use Rattle.alg_printer.specs.Reports.{reports_text}
 use Rattle.alg_terms.specs.declared.file.File.{File}
+use Rattle.alg_terms.specs.Members.{goal_at}
 use Rattle.alg_universe.specs.declared.universe.Universe.{Ghosts}
 use Rattle.alg_universe.specs.Right.{IsRight}
 use Rattle.alg_cli.specs.declared.status.Status.{Status}
 use Rattle.alg_cli.specs.declared.status.Status.TheVariants.{Done, NotAll}
+
+-- there is one report for each goal of the file, in their order, on its answer or on its having none
+pub record AreReports (file : File) (answers : List (Option Answer)) (reports : List GoalCheck) : Type 0 where
+  pub count : length reports ≡ length file.goals
+  pub each : (i : ℕ) (report : GoalCheck) → slice_get reports i ≡ Some report →
+      IsReport file (goal_at file i) (slice_index_or answers i None) report
 
 -- a report that the goal's answer is its own
 abbrev pub is_ok : GoalCheck → Bool

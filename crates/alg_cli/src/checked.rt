@@ -2,10 +2,9 @@
 
 ghost use Rattle.std.specs.Prelude.{◌≡◌, ◌≤◌, IfOk, length};
 ghost use Rattle.alg_annotated.specs.Kept.{AreAnswersTo, size_of};
-ghost use Rattle.alg_check.specs.Reports.{AreReports};
 ghost use Rattle.alg_terms.specs.Limits.{MAX_TEXT};
 ghost use Rattle.alg_terms.specs.Valid.{IsValid};
-ghost use Rattle.alg_cli.specs.Checked.{IsCheckReply, is_ok, status_of_reports};
+ghost use Rattle.alg_cli.specs.Checked.{AreReports, IsCheckReply, is_ok, status_of_reports};
 ghost use Rattle.alg_cli.specs.Commands.{most_bytes};
 ghost use Rattle.alg_cli.specs.Replies.{IsReplyTo};
 ghost use Rattle.alg_cli.specs.Runs.{IsStatusOf};
