@@ -4,3 +4,4 @@ pub mod NoneUpTo
 pub mod Numbers
 pub mod Places
 pub mod Writing
+pub mod OwnAnswers
