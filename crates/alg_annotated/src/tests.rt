@@ -79,7 +79,10 @@ pub(crate) fn what_is_found(alloc: Global, bytes: &[u8]) -> Found {
 pub(crate) fn what_is_behind(alloc: Global, front: &str, behind: &str) -> Found {
     match format!(in alloc; "{front}{behind}") {
         Ok(text) => match what_is_found(alloc, text.as_bytes()) {
-            Found::Fault(code, at) => Found::Fault(code, at.saturating_sub(front.len() as u32)),
+            Found::Fault(code, at) => {
+                let front = u32::try_from(front.len()).unwrap_or(u32::MAX);
+                Found::Fault(code, at.saturating_sub(front))
+            }
             other => other,
         },
         Err(_) => Found::NoMemory,
