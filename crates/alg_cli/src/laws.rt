@@ -1,5 +1,6 @@
 //! Laws of what is written and read. Each is a function whose contract is the law.
 
+ghost use Rattle.alg_reading_back.specs.ReadingAnswers.{Migrates, ReadsBackWithAnswers};
 ghost use Rattle.alg_reading_back.specs.ReadingBack.{ReadsBack};
 
 /// The canonical text of a valid file without answers reads as that file, where no statement of the
@@ -8,4 +9,19 @@ pub fn reads_back()
     ensures { ReadsBack }
 {
     alg_reading_back::laws::reads_back();
+}
+
+/// The canonical text of a valid file with answers that can be printed reads as that file with these
+/// answers, where no statement of the text has more than 200 parentheses open at once.
+pub fn reads_back_with_answers()
+    ensures { ReadsBackWithAnswers }
+{
+    alg_reading_back::laws::reads_back_with_answers();
+}
+
+/// The text of the same file and answers with certificates in format 1 reads as these too.
+pub fn migrates()
+    ensures { Migrates }
+{
+    alg_reading_back::laws::migrates();
 }

@@ -8,7 +8,7 @@ mod nsatz_limits;
 mod rows;
 mod whole_files;
 
-use crate::laws::reads_back;
+use crate::laws::{migrates, reads_back, reads_back_with_answers};
 use crate::status::Status;
 use crate::top::run;
 use alg_outside::{MemSink, MemSource};
@@ -228,6 +228,8 @@ fn each_end_has_its_own_code(rt: HostRuntime) {
 }
 
 #[test]
-fn the_law_is_called() {
+fn the_laws_are_called() {
     reads_back();
+    reads_back_with_answers();
+    migrates();
 }

@@ -53,7 +53,7 @@ tokens_from law text before after spelled stand =
     )
 
 -- the pieces are none, or a line feed is the last of them
-abbrev EndsLine : List Piece → Type 0
+abbrev pub EndsLine : List Piece → Type 0
 EndsLine pieces = (pieces ≡ []) ⊎ ((front : List Piece) × (pieces ≡ front ++ (line_feed ∷ [])))
 
 lines_end : (file : File) (order : List Statement) → EndsLine (file_pieces file order)
@@ -70,7 +70,7 @@ lines_end file (s ∷ order) =
     ]
 
 -- the tokens behind whole lines, from the line feed before them
-tokens_behind : CutFromAnywhere → (text : List ℕ) (before after : List Piece) → EndsLine before →
+pub tokens_behind : CutFromAnywhere → (text : List ℕ) (before after : List Piece) → EndsLine before →
     text ≡ spell (before ++ after) → EachEnds (before ++ after) [] →
     TokensFrom text (width before - 1) (tokens_of (width before) after)
 tokens_behind law text before after (inl none) spelled stand =
@@ -90,7 +90,7 @@ tokens_behind law text before after (inr (front, e)) spelled stand =
     subst Q begin (subst R (sym place) there)
 
 -- the tokens up to a lexeme, which is the last of some pieces
-tokens_to : (text : List ℕ) (from at : ℕ) (front rest : List Piece) (kind : TokenKind) (bytes : List ℕ) →
+pub tokens_to : (text : List ℕ) (from at : ℕ) (front rest : List Piece) (kind : TokenKind) (bytes : List ℕ) →
     TokensFrom text from (tokens_of at (front ++ (Lexeme kind bytes ∷ rest))) →
     let last = front ++ (Lexeme kind bytes ∷ []) in
     TokensTo text from (tokens_of at last) (at + width last)
@@ -109,13 +109,13 @@ tokens_to text from at (Lexeme other more ∷ front) rest kind bytes (next, lexe
 -- ---- statements
 
 -- the pieces end with the `.` of a statement
-abbrev EndsDot : List Piece → Type 0
+abbrev pub EndsDot : List Piece → Type 0
 EndsDot pieces = (front : List Piece) × (pieces ≡ front ++ dot)
 
-ends_dot : (front back : List Piece) → EndsDot (front ++ (back ++ dot))
+pub ends_dot : (front back : List Piece) → EndsDot (front ++ (back ++ dot))
 ends_dot front back = (front ++ back, sym (append_assoc front back dot))
 
-statement_ends : (file : File) (s : Statement) → EndsDot (written_statement file s).pieces
+pub statement_ends : (file : File) (s : Statement) → EndsDot (written_statement file s).pieces
 statement_ends file (statement.Sort s) =
     let sort = sort_at file s in
     (word (kind_word sort.kind) ∷ space ∷ name sort.name ∷ char_pieces sort.char0, refl)

@@ -6,7 +6,6 @@ use Rattle.std.proofs.lemmas.List.Concat.{flat_map-append}
 use Rattle.std.proofs.lemmas.List.Elements.{recursion_from_All}
 use Rattle.alg_terms.specs.declared.file.File.{File}
 use Rattle.alg_terms.specs.declared.file.Statement.{Statement}
-use Rattle.alg_terms.specs.declared.file.Statement.TheVariants as statement
 use Rattle.alg_terms.specs.Limits.{MAX_OPEN}
 use Rattle.alg_terms.specs.Order.{numbers_from}
 use Rattle.alg_terms.specs.Valid.{IsValid}
@@ -24,23 +23,19 @@ use Rattle.alg_typing.specs.Reading.{first_fault, no_statements}
 use Rattle.alg_typing.specs.SortFaults.{sort_faults}
 use Rattle.alg_printer.specs.Text.{text_of, statement_text, IsStatementOf}
 use Rattle.alg_reading_back.specs.ReadingBack.{unanswered, most_open, OpensFew}
-use Rattle.alg_reading_back.proofs.ClosedFronts.{IsClosedBy, front_closed}
-use Rattle.alg_reading_back.proofs.DeclarationsBack.{sort_taken, hom_taken}
+use Rattle.alg_reading_back.proofs.ClosedFronts.{IsClosedBy}
 use Rattle.alg_reading_back.proofs.EvenPieces.{HasFewOpen, even_if_ends, few_open, few_pass}
 use Rattle.alg_reading_back.proofs.FileTokens.{statement_of, statement_piece_bytes}
-use Rattle.alg_reading_back.proofs.FrontNames.{front_distinct}
-use Rattle.alg_reading_back.proofs.Fronts.{front, next}
-use Rattle.alg_reading_back.proofs.GoalsBack.{goal_taken}
-use Rattle.alg_reading_back.proofs.HypsBack.{hyp_taken}
+use Rattle.alg_reading_back.proofs.Fronts.{front}
 use Rattle.alg_reading_back.proofs.WrittenStatements.{written_statement, file_pieces}
 use Rattle.alg_reading_back.proofs.WrittenTerms.{line_feed}
 use Rattle.alg_reading_back.proofs.NextLists.{same_lists}
 use Rattle.alg_reading_back.proofs.PiecesAt.{PiecesAt, pieces_at_all}
 use Rattle.alg_reading_back.proofs.SpelledStatements.{line_pieces, spelled_statement}
 use Rattle.alg_reading_back.proofs.StatementEnds.{statement_pieces_end}
+use Rattle.alg_reading_back.proofs.StatementsTaken.{statement_taken}
 use Rattle.alg_reading_back.proofs.Taken.{IsTaken}
 use Rattle.alg_reading_back.proofs.VarLists.{numbers_long}
-use Rattle.alg_reading_back.proofs.VarsBack.{vars_taken}
 
 -- ---- the whole file as the front of all statements
 
@@ -51,12 +46,12 @@ take_whole [] (suc n) h = absurd (omega arith)
 take_whole (x ∷ xs) zero h = absurd (omega arith)
 take_whole (x ∷ xs) (suc n) h = ap (λ ys. x ∷ ys) (take_whole xs n (omega arith))
 
-take_no : {X : Type 0} (xs : List X) → take 0 xs ≡ []
+pub take_no : {X : Type 0} (xs : List X) → take 0 xs ≡ []
 take_no [] = refl
 take_no (x ∷ xs) = refl
 
 -- all numbers of a list
-all_of : {X : Type 0} (xs : List X) (numbers : List ℕ) → numbers ≡ numbers_from 0 (length xs) →
+pub all_of : {X : Type 0} (xs : List X) (numbers : List ℕ) → numbers ≡ numbers_from 0 (length xs) →
     take (length numbers) xs ≡ xs
 all_of xs numbers same = take_whole xs (length numbers) (ap length same ∙ numbers_long 0 (length xs))
 
@@ -140,22 +135,8 @@ module _ (law : CutFromAnywhere) (file : File) (valid : IsValid file) (few : Ope
   pub taken_there : (before after : List Statement) (s : Statement) → file.order ≡ before ++ (s ∷ after) →
       IsStatementOf file s → IsClosedBy file before →
       IsTaken (front file before) text ((written_statement file s).raw (begin before)) (front file (before ++ s ∷ []))
-  taken_there before after (statement.Sort k) split is closed =
-      sort_taken file valid before after k split text (begin before)
-      (pieces_there before after (statement.Sort k) split)
-  taken_there before after (statement.Hom f) split is closed =
-      hom_taken file valid before after f split (front_distinct file valid before) text (begin before)
-      (pieces_there before after (statement.Hom f) split)
-  taken_there before after (statement.Vars first count) split is closed =
-      vars_taken file valid before after first count split (front_distinct file valid before) text (begin before)
-      (pieces_there before after (statement.Vars first count) split)
-  taken_there before after (statement.Hyp h) split is closed =
-      hyp_taken file valid before after h split is text (begin before)
-      (pieces_there before after (statement.Hyp h) split)
-  taken_there before after (statement.Goal i) split is closed =
-      let fits = (next file valid.ordered before after (statement.Goal i) split).sorts.1 in
-      goal_taken file valid before after i split is (front_closed file before (omega (arith, fits)) closed) text
-      (begin before) (pieces_there before after (statement.Goal i) split)
+  taken_there before after s split is closed =
+      statement_taken file valid before after s split is closed text (begin before) (pieces_there before after s split)
 
   -- it stops where reading goes on behind it
   pub next_place : (before : List Statement) (s : Statement) →

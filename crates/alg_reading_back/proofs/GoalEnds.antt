@@ -29,7 +29,7 @@ stand_left file front nonzero e stand one next =
     (sign_space (relation_sign nonzero) [] next tt)
 
 -- pieces before the end of a statement
-dot_pieces_end : (pieces : List Piece) → EndsAtStop pieces → EndsAtStop (pieces ++ dot)
+pub dot_pieces_end : (pieces : List Piece) → EndsAtStop pieces → EndsAtStop (pieces ++ dot)
 dot_pieces_end pieces stand next stops = ends_append pieces dot next (stand (46 ∷ next) (46, next, refl, refl))
     ((refl, stop_no_sign next stops), tt)
 

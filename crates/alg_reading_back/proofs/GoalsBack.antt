@@ -75,7 +75,7 @@ module _ (file : File) (valid : IsValid file) (before after : List Statement) (i
   rules = valid.goals i no_goal low
 
   -- its equation, the morphisms of its uses and their hypotheses are those of the front
-  range : AreInRange g e
+  pub range : AreInRange g e
   range =
       let s = statement.Goal i in
       let used = valid.ordered.earlier before after s split in
@@ -83,7 +83,7 @@ module _ (file : File) (valid : IsValid file) (before after : List Statement) (i
       (all_left (Contains (declared_by_all before).homs) (homs_in e)
       (flat_map (λ used. used.path) (uses_of goal.method)) used.homs)
 
-  uses_range : All (IsUseInRange g) (uses_of goal.method)
+  pub uses_range : All (IsUseInRange g) (uses_of goal.method)
   uses_range =
       let s = statement.Goal i in
       let used = valid.ordered.earlier before after s split in

@@ -22,7 +22,7 @@ use Rattle.alg_reading_back.proofs.TermEnds.{Fits, HasNames, EndsAtStop, word_sp
 -- ---- uses
 
 -- a name under a path
-fits_path : (file : File) (path bytes : List ℕ) → HasNames file → AllByRecursion (λ f. f < length file.homs) path →
+pub fits_path : (file : File) (path bytes : List ℕ) → HasNames file → AllByRecursion (λ f. f < length file.homs) path →
     IsName bytes → Fits (path_pieces file path bytes)
 fits_path file [] bytes names all is = fits_name bytes is
 fits_path file (f ∷ path) bytes names all is = fits_called (hom_name file f) (path_pieces file path bytes)

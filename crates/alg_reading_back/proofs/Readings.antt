@@ -20,7 +20,7 @@ use Rattle.alg_reading_back.proofs.StatementsRead.{statement_read}
 use Rattle.alg_reading_back.proofs.Utf8Text.{text_utf8}
 
 -- a statement's raw statement is no end
-goes_on : (file : File) (s : Statement) (at : ℕ) → (written_statement file s).raw at ≢ raws.End
+pub goes_on : (file : File) (s : Statement) (at : ℕ) → (written_statement file s).raw at ≢ raws.End
 goes_on file (statement.Sort k) at = λ e. absurd (cc)
 goes_on file (statement.Hom f) at = λ e. absurd (cc)
 goes_on file (statement.Vars first count) at = λ e. absurd (cc)

@@ -14,7 +14,7 @@ use Rattle.alg_reading_back.proofs.SpelledTerms.{spelled_parentheses}
 -- ---- uses
 
 -- a name under a path
-spelled_path : (file : File) (path bytes : List ℕ) → spell (path_pieces file path bytes) ≡ under file path bytes
+pub spelled_path : (file : File) (path bytes : List ℕ) → spell (path_pieces file path bytes) ≡ under file path bytes
 spelled_path file [] bytes = append-nil bytes
 spelled_path file (f ∷ path) bytes =
     ap (λ bs. hom_name file f ++ bs)

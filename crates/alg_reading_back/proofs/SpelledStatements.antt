@@ -159,7 +159,7 @@ spelled_front file e =
     ∙ ap (λ bs. ((codes "goal " ++ term_text file e.left) ++ codes " = ") ++ bs) (spell_append sides.right last
     ∙ ap (λ bs. bs ++ codes " by ") (spelled_term file e.right))
 
-spelled_goal : (file : File) (goal : Goal) → spell (line_pieces (written_goal file goal).pieces) ≡ goal_text file goal
+pub spelled_goal : (file : File) (goal : Goal) → spell (line_pieces (written_goal file goal).pieces) ≡ goal_text file goal
 spelled_goal file goal =
     let by = goal_front file goal.equation in
     let method = method_pieces file goal.method in

@@ -127,7 +127,7 @@ numbers_named file names first (suc count) fits =
     (names.vars first (omega arith), numbers_named file names (suc first) count (omega arith))
 
 -- a term of the file
-fits : (file : File) (t : Term) → HasNames file → IsTerm file t → Fits (written file t).pieces
+pub fits : (file : File) (t : Term) → HasNames file → IsTerm file t → Fits (written file t).pieces
 fits file t names is = fits_term file t names (is.indices, is.literals, is.exponents)
 
 pub statement_pieces_end : (file : File) (s : Statement) → IsValid file → IsStatementOf file s →

@@ -10,6 +10,7 @@ use Rattle.alg_terms.specs.Members.{sort_at, hom_at, hyp_at, goal_at, no_sort, n
 use Rattle.alg_terms.specs.Valid.{IsValid}
 use Rattle.alg_tokens.specs.declared.token.Token.{Token}
 use Rattle.alg_tokens.specs.Laws.{tokens_of}
+use Rattle.alg_reader.specs.declared.place.Place.{Place}
 use Rattle.alg_reader.specs.declared.place.Place.TheVariants.{Plain}
 use Rattle.alg_reader.specs.declared.raw.RawEquation.{RawEquation}
 use Rattle.alg_reader.specs.declared.raw.RawKind.{RawKind}
@@ -97,20 +98,20 @@ statement_begins file (statement.Goal i) at = (_, _, refl, refl)
 
 -- ---- what is read
 
--- a statement that stands and is passed
-read_of : (text : List ℕ) (from at stop : ℕ) (tokens : List Token) (kind : RawKind) →
+-- a statement of a place that stands and is passed
+pub read_of : (place : Place) (text : List ℕ) (from at stop : ℕ) (tokens : List Token) (kind : RawKind) →
     BeginsAt at tokens → TokensTo text from tokens stop → GoesPast 0 tokens →
-    IsStatement Plain tokens kind → IsKept kind →
-    IsRead Plain text from (Ok (record { kind = kind; start = at; stop = stop; too_deep = None }))
+    IsStatement place tokens kind → IsKept kind →
+    IsRead place text from (Ok (record { kind = kind; start = at; stop = stop; too_deep = None }))
 unfolding IsRead
-read_of text from at stop tokens kind (first, more, is, starts) reaches passes derived (whole, shallow) =
+read_of place text from at stop tokens kind (first, more, is, starts) reaches passes derived (whole, shallow) =
     inr (
       first,
       more,
       subst (λ ts. TokensTo text from ts stop) is reaches,
       subst (GoesPast 0) is passes,
       starts,
-      (kind, subst (λ ts. IsStatement Plain ts kind) is derived, (sym whole, sym shallow)),
+      (kind, subst (λ ts. IsStatement place ts kind) is derived, (sym whole, sym shallow)),
     )
 
 -- where a text has its tokens and reading goes past them, it is read there
@@ -120,7 +121,7 @@ pub statement_read : (file : File) → IsValid file → (s : Statement) → IsSt
     IsRead Plain text from
     (Ok (record { kind = (written_statement file s).raw at; start = at; stop = stop; too_deep = None }))
 statement_read file valid s is text from at stop reaches passes =
-    read_of text from at stop (tokens_of at (written_statement file s).pieces)
+    read_of Plain text from at stop (tokens_of at (written_statement file s).pieces)
     ((written_statement file s).raw at)
     (statement_begins file s at) reaches passes (statement_derived file valid s is at)
     (statement_kept file valid s is at)

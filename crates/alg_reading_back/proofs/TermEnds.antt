@@ -52,7 +52,7 @@ fits_numeral n small =
     }
 
 -- a literal
-fits_integer : (n : ℤ) → (pos 0 ≤ℤ n) × (n ≤ℤ MAX_LITERAL) → Fits (integer n ∷ [])
+pub fits_integer : (n : ℤ) → (pos 0 ≤ℤ n) × (n ≤ℤ MAX_LITERAL) → Fits (integer n ∷ [])
 fits_integer (pos n) (low, high) = fits_numeral n high
 fits_integer (negsuc n) (low, high) = absurd (omega (arith, ints))
 
@@ -78,7 +78,7 @@ name_space bytes pieces next is stand = ((is.0, is.1, (32, _, refl, refl)), ((32
 -- ---- pieces of several
 
 -- what begins with pieces that fit
-opens_more : (front back : List Piece) (next : List ℕ) → Fits front → GoesOnNoSign (spell (front ++ back) ++ next)
+pub opens_more : (front back : List Piece) (next : List ℕ) → Fits front → GoesOnNoSign (spell (front ++ back) ++ next)
 opens_more front back next fits =
     let same = ap (λ bs. bs ++ next) (spell_append front back) ∙ append_assoc (spell front) (spell back) next in
     subst GoesOnNoSign (sym same) (fits.opens (spell back ++ next))
@@ -115,7 +115,7 @@ abbrev Stops : Sign → Type 0
 Stops op = (more next : List ℕ) → BeginsStop ((sign_spelling op ++ more) ++ next)
 
 -- a sign without spaces
-fits_tight : (op : Sign) (left right : List Piece) → Stops op → Fits left → Fits right →
+pub fits_tight : (op : Sign) (left right : List Piece) → Stops op → Fits left → Fits right →
     Fits (left ++ (sign op ∷ right))
 fits_tight op left right stops one other = record {
   stand = λ next ends. ends_append left (sign op ∷ right) next (one.stand _ (stops (spell right) next))
@@ -124,7 +124,7 @@ fits_tight op left right stops one other = record {
 }
 
 -- `-` before a part
-fits_minus : (part : List Piece) → Fits part → Fits (sign signs.Minus ∷ part)
+pub fits_minus : (part : List Piece) → Fits part → Fits (sign signs.Minus ∷ part)
 fits_minus part fits = record {
   stand = λ next stops. ((refl, fits.opens next), fits.stand next stops);
   opens = λ next e. omega (arith, e);

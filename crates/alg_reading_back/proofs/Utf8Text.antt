@@ -104,7 +104,7 @@ piece_utf8 (Lexeme (kinds.Number value) bytes) next (is, same, small, stops) = l
 piece_utf8 (Lexeme (kinds.Sign sign) bytes) next (is, stops) = subst IsUtf8 (sym is) (sign_utf8 sign)
 piece_utf8 (Lexeme kinds.End bytes) next stands = absurd stands
 
-pieces_utf8 : (pieces : List Piece) (rest : List ℕ) → EachEnds pieces rest → IsUtf8 (spell pieces)
+pub pieces_utf8 : (pieces : List Piece) (rest : List ℕ) → EachEnds pieces rest → IsUtf8 (spell pieces)
 pieces_utf8 [] rest stand = IsUtf8-nil
 pieces_utf8 (piece ∷ pieces) rest (stands, stand) =
     IsUtf8-append (bytes_of piece) (spell pieces) (piece_utf8 piece (spell pieces ++ rest) stands)

@@ -1,11 +1,27 @@
-//! The law of what is written and read. It is the contract of a function that does nothing.
+//! The laws of what is written and read. Each is the contract of a function that does nothing.
 
+ghost use Rattle.alg_reading_back.specs.ReadingAnswers.{ReadsBackWithAnswers, Migrates};
 ghost use Rattle.alg_reading_back.specs.ReadingBack.{ReadsBack};
 
 /// The canonical text of a valid file without answers reads as that file, where no statement of the
 /// text has more than 200 parentheses open at once.
 pub fn reads_back()
     ensures { ReadsBack }
+{
+    alg_tokens::laws::cut_from_anywhere();
+}
+
+/// The canonical text of a valid file with answers that can be printed reads as that file with
+/// these answers, where no statement of the text has more than 200 parentheses open at once.
+pub fn reads_back_with_answers()
+    ensures { ReadsBackWithAnswers }
+{
+    alg_tokens::laws::cut_from_anywhere();
+}
+
+/// The text of the same file and answers with certificates in format 1 reads as these too.
+pub fn migrates()
+    ensures { Migrates }
 {
     alg_tokens::laws::cut_from_anywhere();
 }

@@ -1,0 +1,14 @@
+pub mod Factors
+pub mod AtomNames
+pub mod Lasts
+pub mod Sizes
+pub mod AnswersKept
+pub mod Clear
+pub mod ClearMonomials
+pub mod FirstFaults
+pub mod Statements
+pub mod Progressing
+pub mod Ends
+pub mod TextSteps
+pub mod LinesClear
+pub mod LastGoal

@@ -1,0 +1,10 @@
+pub mod Monomials
+pub mod Parts
+pub mod Names
+pub mod Rules
+pub mod Resolved
+pub mod Places
+pub mod Reading
+pub mod Kept
+pub mod Progress
+pub mod Laws
