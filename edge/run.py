@@ -13,9 +13,17 @@ import subprocess
 import sys
 
 MOST_BYTES = 1_048_576
+MOST_CHECKED = 16_777_216
 PROVED = b"ring R.\nvar x y : R.\ngoal (x + y)^2 = x^2 + 2*x*y + y^2 by ring.\n"
 DIFFERS = b"ring R.\nvar x y : R.\ngoal (x + y)^2 = x^2 + y^2 by ring.\n"
 UNFINISHED = b"ring R.\nvar x : R"
+CERTIFIED = b"""domain D.
+var x y : D.
+hyp H : 2*x = 0.
+goal x = 0 by nsatz using H power 1 limit 10000.
+  proved version 2 power 1 if 2 <> 0.
+  step 2 minus 1, 1.
+"""
 MANY = b"ring R.\nvar x : R.\n" + b"goal x + x = 2*x by ring.\n" * 30_000
 MANY_ANSWERED = MANY.replace(b"by ring.\n", b"by ring.\n  proved.\n")
 
@@ -33,6 +41,11 @@ INPUTS = [
     ("another word", ["Prove"], PROVED, b"usage\n", 3),
     ("two words", ["prove", "prove"], PROVED, b"usage\n", 3),
     ("a word that is no text", [b"\xff"], PROVED, b"usage\n", 3),
+    ("a certificate is good", ["check"], CERTIFIED, b"goal 1: ok proved\n", 0),
+    ("a certificate is spoilt", ["check"], CERTIFIED.replace(b"step 2", b"step 3"), b"goal 1: bad at 2\n", 1),
+    ("an answer is none of the method", ["check"], DIFFERS + b"  none up to power 1.\n", b"refused 17 at 59\n", 2),
+    ("as many bytes as may be checked", ["check"], b" " * MOST_CHECKED, b"", 0),
+    ("one byte too many to check", ["check"], b" " * (MOST_CHECKED + 1), b"refused large\n", 2),
     ("a loaded file", ["load", "10"], b"", b"load 10: 7 proved, 3 not\n", 1),
     ("the greatest loaded file", ["load", "10000"], b"", b"load 10000: 6667 proved, 3333 not\n", 1),
     ("a greater one", ["load", "10001"], b"", b"usage\n", 3),
@@ -46,6 +59,7 @@ STREAMS = [
     ("a loaded file reads nothing", "load 1", "<&-", b"load 1: 1 proved, 0 not\n", 0),
     ("an empty device", "prove", "< /dev/null", b"", 0),
     ("a full device", "prove", "> /dev/full", b"", 5),
+    ("a closed input to check", "check", "<&-", b"", 4),
     ("a full device for the usage", "", "> /dev/full", b"", 5),
     ("a closed output", "prove", ">&-", b"", 5),
     ("a closed output for the usage", "", ">&-", b"", 5),

@@ -14,6 +14,7 @@ use Rattle.alg_cli.specs.Runs.{IsFailure, IsStatusOf}
 pub works_on_input : (c : Command) (left : Option (List ℕ)) (P : List ℕ → Type 0) → ReadsInput c → IfSome left P →
     IfSome (bytes_for c left) P
 works_on_input command.Prove left P reads h = h
+works_on_input command.Check left P reads h = h
 works_on_input (command.Load goals) left P reads h = absurd reads
 works_on_input command.Usage left P reads h = absurd reads
 
@@ -21,12 +22,14 @@ works_on_input command.Usage left P reads h = absurd reads
 pub works_on_nothing : (c : Command) (left : Option (List ℕ)) → ¬ ReadsInput c →
     IfSome (bytes_for c left) (λ told. told ≡ [])
 works_on_nothing command.Prove left never = absurd (never tt)
+works_on_nothing command.Check left never = absurd (never tt)
 works_on_nothing (command.Load goals) left never = refl
 works_on_nothing command.Usage left never = refl
 
 -- a command that reads may refuse its input
 pub may_refuse : (c : Command) → ReadsInput c → IsStatusOf c Refused
 may_refuse command.Prove reads = tt
+may_refuse command.Check reads = tt
 may_refuse (command.Load goals) reads = absurd reads
 may_refuse command.Usage reads = absurd reads
 
@@ -39,6 +42,9 @@ no_failure c Usage fits = λ no. no
 no_failure command.Prove ReadFault fits = absurd fits
 no_failure command.Prove WriteFault fits = absurd fits
 no_failure command.Prove NoMemory fits = absurd fits
+no_failure command.Check ReadFault fits = absurd fits
+no_failure command.Check WriteFault fits = absurd fits
+no_failure command.Check NoMemory fits = absurd fits
 no_failure (command.Load goals) ReadFault fits = absurd fits
 no_failure (command.Load goals) WriteFault fits = absurd fits
 no_failure (command.Load goals) NoMemory fits = absurd fits
@@ -49,6 +55,7 @@ no_failure command.Usage NoMemory fits = absurd fits
 -- only the usage ends as such
 pub usage_ends : (c : Command) → IsStatusOf c Usage → c ≡ command.Usage
 usage_ends command.Prove fits = absurd fits
+usage_ends command.Check fits = absurd fits
 usage_ends (command.Load goals) fits = absurd fits
 usage_ends command.Usage fits = refl
 

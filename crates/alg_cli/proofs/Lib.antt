@@ -3,4 +3,5 @@ pub mod Commands
 pub mod NoneUpTo
 pub mod Numbers
 pub mod Places
+pub mod Reported
 pub mod Writing

@@ -1,6 +1,7 @@
 -- What an input is replied: the text, the status, and what the answers in it say.
 use Rattle.std.specs.Prelude.{◌≡◌, ◌<◌, ◌≤◌, ◌⊎◌, ℕ, ℤ, Bool, true, false, if◌then◌else◌, List, [], ◌++◌, ◌-◌, length, map, codes, decimal, slice_get, Some, Ok, Err}
 use Rattle.std.specs.List.{list_all, count_by}
+use Rattle.alg_annotated.specs.Reading.{IsAnnotatedReadingOf}
 use Rattle.alg_lines.specs.declared.answer.Answer.{Answer}
 use Rattle.alg_lines.specs.declared.answer.Answer.TheVariants.{Proved, Certified, No, NoneUpTo}
 use Rattle.alg_lines.specs.declared.cert.Cert.{Cert}
@@ -23,6 +24,7 @@ use Rattle.alg_universe.specs.Right.{IsRight}
 use Rattle.alg_cli.specs.declared.command.Command.{Command}
 use Rattle.alg_cli.specs.declared.status.Status.{Status}
 use Rattle.alg_cli.specs.declared.status.Status.TheVariants.{Done, NotAll, Refused, Usage}
+use Rattle.alg_cli.specs.Checked.{IsReported}
 use Rattle.alg_cli.specs.Commands.{most_bytes}
 
 -- an answer that says that the goal is proved
@@ -81,10 +83,10 @@ pub record IsAnswered {E : Type 0} (u : Ghosts E) (bytes text : List ℕ) (statu
   pub differ : NoesDiffer file reply.answers
   pub none : NonesHaveNone file reply.answers
 
--- the bytes are no file, and the text is their first fault
-pub record IsRefused (bytes text : List ℕ) (status : Status) : Type 0 where
+-- the bytes are no file, and the text is what is a first fault of theirs
+pub record IsRefused (IsFirstFault : Refusal → Type 0) (text : List ℕ) (status : Status) : Type 0 where
   pub fault : Refusal
-  pub reads : IsReadingOf bytes (Err fault)
+  pub reads : IsFirstFault fault
   pub writes : text ≡ refusal_text fault
   pub ends : status ≡ Refused
 
@@ -118,7 +120,10 @@ pub record IsUsage (text : List ℕ) (status : Status) : Type 0 where
 
 -- what a command replies to bytes that are not too many
 abbrev pub IsReplyWithin : {E : Type 0} → Ghosts E → Command → List ℕ → List ℕ → Status → Type 0
-IsReplyWithin u Command.Prove bytes text status = IsRefused bytes text status ⊎ IsAnswered u bytes text status
+IsReplyWithin u Command.Prove bytes text status =
+    IsRefused (λ fault. IsReadingOf bytes (Err fault)) text status ⊎ IsAnswered u bytes text status
+IsReplyWithin u Command.Check bytes text status =
+    IsRefused (λ fault. IsAnnotatedReadingOf bytes (Err fault)) text status ⊎ IsReported u bytes text status
 IsReplyWithin u (Command.Load goals) bytes text status = IsSummary goals text status
 IsReplyWithin u Command.Usage bytes text status = IsUsage text status
 

@@ -32,6 +32,9 @@ abbrev pub IsStatusOf : Command → Status → Type 0
 IsStatusOf command.Prove Done = Unit {0}
 IsStatusOf command.Prove NotAll = Unit {0}
 IsStatusOf command.Prove Refused = Unit {0}
+IsStatusOf command.Check Done = Unit {0}
+IsStatusOf command.Check NotAll = Unit {0}
+IsStatusOf command.Check Refused = Unit {0}
 IsStatusOf (command.Load goals) Done = Unit {0}
 IsStatusOf (command.Load goals) NotAll = Unit {0}
 IsStatusOf command.Usage Usage = Unit {0}

@@ -12,6 +12,8 @@ use alg_load::GREATEST_LOAD;
 pub enum Command {
     /// Read a file, and write it back with the answers to its goals.
     Prove,
+    /// Read a file with answers, and report on the answer to each of its goals.
+    Check,
     /// Answer the loaded file of so many goals, and write how many of them are proved.
     Load(u32),
     /// Say how the program is used, since the words ask for nothing that it knows.
@@ -26,6 +28,7 @@ impl Command {
     {
         match words {
             [word] if word.as_str() == "prove" => Command::Prove,
+            [word] if word.as_str() == "check" => Command::Check,
             [word, number] if word.as_str() == "load" => match goals_of(number.as_str()) {
                 Some(goals) => Command::Load(goals),
                 None => Command::Usage,
@@ -39,7 +42,7 @@ impl Command {
         ensures { MatchBool result (ReadsInput self) (¬ ReadsInput self) }
     {
         match self {
-            Command::Prove => true,
+            Command::Prove | Command::Check => true,
             Command::Load(_) | Command::Usage => false,
         }
     }
@@ -51,6 +54,7 @@ impl Command {
     {
         match self {
             Command::Prove => 1_048_576,
+            Command::Check => 16_777_216,
             Command::Load(_) | Command::Usage => 0,
         }
     }

@@ -1,9 +1,11 @@
 //! The program `alg`: reads a file of declarations and goals, answers each goal, and writes the file
-//! back with its answers. Nothing stands above this crate: `top::run` is what the program does.
-//! `specs/Commands.antt` says what the words ask for, `specs/Replies.antt` what is replied, and
-//! `specs/Runs.antt` what a run writes and what its status says of that.
+//! back with its answers; or reads a file with answers, and reports on each. Nothing stands above this
+//! crate: `top::run` is what the program does. `specs/Commands.antt` says what the words ask for,
+//! `specs/Replies.antt` what is replied, `specs/Checked.antt` what reports say, and `specs/Runs.antt`
+//! what a run writes and what its status says of that.
 #![tactic(auto)]
 
+mod checked;
 pub mod command;
 pub mod laws;
 mod load;

@@ -2,10 +2,12 @@
 
 mod by_field;
 mod by_nsatz;
+mod checks;
 mod failing_ends;
 mod loads;
 mod nsatz_limits;
 mod rows;
+mod spoilt;
 mod whole_files;
 
 use crate::laws::{migrates, reads_back, reads_back_with_answers};
@@ -28,7 +30,7 @@ fn words_of(alloc: Global, texts: &[&str]) -> Result<Vec<String>, Fail> {
 
 /// The word that asks for answers.
 fn prove(alloc: Global) -> Result<Vec<String>, Fail> {
-    Ok(vec![in alloc; String::from_str(alloc, "prove")?]?)
+    words_of(alloc, &["prove"])
 }
 
 /// Two pieces, one after the other.
@@ -38,13 +40,18 @@ fn joined(alloc: Global, first: &str, second: &str) -> Result<Vec<u8>, Fail> {
     Ok(all)
 }
 
-/// What `prove` writes for an input, and how it ends.
-fn prove_run(alloc: Global, input: Vec<u8>) -> Result<(Vec<u8>, Status), Fail> {
-    let words = prove(alloc)?;
+/// What one word has the program write for an input, and how the run ends.
+fn run_of(alloc: Global, word: &str, input: Vec<u8>) -> Result<(Vec<u8>, Status), Fail> {
+    let words = words_of(alloc, &[word])?;
     let mut source = MemSource::new(input, 1000, Vec::new(alloc));
     let mut sink = MemSink::new(alloc, 100_000, 1000, Vec::new(alloc))?;
     let status = run::<Rats, _, _>(alloc, words.as_slice(), &mut source, &mut sink);
     Ok((sink.bytes().to_vec(alloc)?, status))
+}
+
+/// What `prove` writes for an input, and how it ends.
+fn prove_run(alloc: Global, input: Vec<u8>) -> Result<(Vec<u8>, Status), Fail> {
+    run_of(alloc, "prove", input)
 }
 
 #[test]
@@ -200,7 +207,12 @@ fn an_input_has_at_most_a_mebibyte(rt: HostRuntime) -> Result<(), Fail> {
 
 #[test]
 fn for_other_words_the_usage_is_written_and_nothing_read(rt: HostRuntime) -> Result<(), Fail> {
-    for row in [[].as_slice(), &["Prove"], &["prove", "prove"]] {
+    for row in [
+        [].as_slice(),
+        &["Prove"],
+        &["prove", "prove"],
+        &["check", "check"],
+    ] {
         let words = words_of(rt.alloc(), row)?;
         let fails = vec![in rt.alloc(); 1u64]?;
         let mut source = MemSource::new(Vec::new(rt.alloc()), 1, fails);

@@ -10,6 +10,7 @@ ghost use Rattle.alg_cli.specs.Runs.{IsReply, IsFailure, IsStatusOf, WritesBySta
 ghost use Rattle.alg_cli.specs.Replies.{IsReplyTo, IsFileReply};
 ghost use Rattle.alg_cli.specs.Replies as spec;
 
+use crate::checked::checked;
 use crate::command::Command;
 use crate::load::loaded;
 use crate::status::Status;
@@ -32,11 +33,13 @@ pub(crate) struct Reply {
     pub(crate) status: Status,
 }
 
-/// Does what the words ask for: with the word `prove` it reads the whole input, at most 1,048,576
-/// bytes, and writes the file back with its answers, or its first fault; with `load` and a number it
-/// reads nothing and writes how many goals of the loaded file are proved; with other words it writes
-/// the usage. All memory is taken before the first byte is written. `U` has no call that runs, so
-/// the same program serves every family of structures.
+/// Does what the words ask for. With the word `prove` it reads the whole input, at most 1,048,576
+/// bytes, and writes the file back with its answers. With the word `check` it reads a file with
+/// answers, at most 16,777,216 bytes, and writes a report on each goal. Of an input that is no such
+/// file both write the first fault. With `load` and a number it reads nothing and writes how many
+/// goals of the loaded file are proved; with other words it writes the usage. All memory is taken
+/// before the first byte is written. `U` has no call that runs, so the same program serves every
+/// family of structures.
 pub fn run<U: Universe, S: Source, K: Sink>(
     alloc: Global,
     words: &[String],
@@ -44,7 +47,8 @@ pub fn run<U: Universe, S: Source, K: Sink>(
     sink: &mut K,
 ) -> Status
     // What was written is the reply to the input: the file's text with its answers, each of which is
-    // right in every universe that fits, or the first fault; or the summary; or the usage.
+    // right in every universe that fits, or a report on each goal, which is right so where it is
+    // reported proved, or the first fault; or the summary; or the usage.
     ensures written { WritesByStatus (IsReply U.Universe (command_of words.now) (S.left source.old)) result
         (change K.Sink sink.old sink.new) }
     // Unless a count of faults rose or memory ran out, the reply was written.
@@ -71,6 +75,8 @@ pub fn run<U: Universe, S: Source, K: Sink>(
 {
     alg_typing::laws::one_reading();
     alg_prover::laws::one_answer();
+    alg_annotated::laws::one_reading();
+    alg_check::laws::one_report();
     let command = Command::of(words);
     if command == Command::Usage {
         return write_reply(sink, b"usage\n", Status::Usage);
@@ -128,6 +134,7 @@ fn reply_to<U: Universe>(alloc: Global, command: Command, bytes: &[u8]) -> Resul
 {
     match command {
         Command::Prove => proved::<U>(alloc, bytes),
+        Command::Check => checked::<U>(alloc, bytes),
         Command::Load(goals) => loaded(alloc, goals),
         Command::Usage => unreachable!(),
     }
@@ -198,7 +205,7 @@ fn all_some(alloc: Global, answers: Vec<Answer>) -> Result<Vec<Option<Answer>>, 
 }
 
 /// A fault as it is written.
-fn refusal_text(alloc: Global, fault: Refusal) -> Result<Vec<u8>, AllocError>
+pub(crate) fn refusal_text(alloc: Global, fault: Refusal) -> Result<Vec<u8>, AllocError>
     ensures { IfOk result (λ text. text.items ≡ spec.refusal_text fault) }
 {
     let mut text = Vec::from_slice(alloc, b"refused ")?;

@@ -47,7 +47,8 @@ returns-in-Err-TooLarge-clause-always g c = λ read never.
     (change g.K.Sink c.args.sink.now c.write_reply-in-Err-TooLarge.new.sink)) c.of-command.ensures.command
     (works_on_input k left _ reads
     (if_told left (λ bytes. most_bytes k < length bytes) _ (λ bytes large.
-    always u c.one_reading.ensures c.one_answer.ensures k bytes (codes "refused large\n") Refused result _ _ never
+    always u c.one_reading.ensures c.one_reading-2.ensures c.one_answer.ensures c.one_report.ensures k bytes
+    (codes "refused large\n") Refused result _ _ never
     (too_large u k bytes large) c.write_reply-in-Err-TooLarge.ensures) larger))
 
 -- the input was read whole, or is not read
@@ -85,7 +86,8 @@ returns-in-Ok-reply_to-clause-always g c = λ read never.
     subst (λ k. RepliesUnlessNoMemory u k left result
     (change g.K.Sink c.args.sink.now c.write_reply-in-Ok-reply_to.new.sink)) c.of-command.ensures.command
     (if_told (bytes_for k left) (λ told. told ≡ c.in-Ok.bytes.items) _ (λ told same_bytes.
-    always u c.one_reading.ensures c.one_answer.ensures k told written reply.status result _ _ never
+    always u c.one_reading.ensures c.one_reading-2.ensures c.one_answer.ensures c.one_report.ensures k told written
+    reply.status result _ _ never
     (subst (λ bytes. IsReplyTo u k bytes written reply.status) (sym same_bytes)
     (subst (λ text. IsReplyTo u k c.in-Ok.bytes.items text reply.status) same made))
     c.write_reply-in-Ok-reply_to.ensures) c.in-Ok.ensures.told)
