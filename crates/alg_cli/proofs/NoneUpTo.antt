@@ -12,24 +12,25 @@ use Rattle.alg_terms.specs.Valid.{IsValid}
 use Rattle.alg_lines.specs.declared.answer.Answer.{Answer}
 use Rattle.alg_lines.specs.declared.answer.Answer.TheVariants.{NoneUpTo}
 use Rattle.alg_criterion.specs.Laws.{HasNone, NoneExists}
+use Rattle.alg_reify.specs.Answers.{field_answer, ring_answer}
 use Rattle.alg_reify.specs.FieldVerdict.{FieldVerdict}
 use Rattle.alg_reify.specs.Preparing.{prepared_goal, prepared_hyps}
 use Rattle.alg_reify.specs.RingVerdict.{RingVerdict}
 use Rattle.alg_nsatz.specs.Verdict.{NsatzVerdict, IsVerdictOf}
 use Rattle.alg_nsatz.proofs.Within.{few_prepared, prepared_are, prepared_is}
-use Rattle.alg_prover.specs.Answers.{AreAnswers, IsAnswerBy, answer_of, field_answer_of, nsatz_answer_of}
+use Rattle.alg_prover.specs.Answers.{AreAnswers, IsAnswerBy, nsatz_answer_of}
 use Rattle.alg_cli.specs.Replies.{NonesHaveNone}
 use Rattle.alg_cli.proofs.Places.{pair_at}
 
 -- only a goal by nsatz has this answer
-never_by_ring : (power : ℕ) (v : RingVerdict) → NoneUpTo power ≡ answer_of v → ⊥
+never_by_ring : (power : ℕ) (v : RingVerdict) → NoneUpTo power ≡ ring_answer v → ⊥
 never_by_ring power RingVerdict.Atoms same = cc
 never_by_ring power RingVerdict.Range same = cc
 never_by_ring power RingVerdict.Degree same = cc
 never_by_ring power RingVerdict.Proved same = cc
 never_by_ring power (RingVerdict.No m a b) same = cc
 
-never_by_field : (power : ℕ) (v : FieldVerdict) → NoneUpTo power ≡ field_answer_of v → ⊥
+never_by_field : (power : ℕ) (v : FieldVerdict) → NoneUpTo power ≡ field_answer v → ⊥
 never_by_field power FieldVerdict.Atoms same = cc
 never_by_field power FieldVerdict.Range same = cc
 never_by_field power FieldVerdict.Degree same = cc

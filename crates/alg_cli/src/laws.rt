@@ -1,5 +1,6 @@
 //! Laws of what is written and read. Each is a function whose contract is the law.
 
+ghost use Rattle.alg_cli.specs.OwnAnswers.{AnswersAreAccepted};
 ghost use Rattle.alg_reading_back.specs.ReadingAnswers.{Migrates, ReadsBackWithAnswers};
 ghost use Rattle.alg_reading_back.specs.ReadingBack.{ReadsBack};
 
@@ -24,4 +25,12 @@ pub fn migrates()
     ensures { Migrates }
 {
     alg_reading_back::laws::migrates();
+}
+
+/// The answers to the goals of a valid file are accepted: on a proof the report is `ok proved`, on each
+/// other answer by ring and by field `ok other`, and by nsatz `unchecked`.
+pub fn answers_are_accepted()
+    ensures { AnswersAreAccepted }
+{
+    alg_nsatz::laws::proved_is_accepted();
 }

@@ -98,7 +98,7 @@ position_within t n (x ∷ xs) r e =
     ] e
 
 -- ---- the first state
-length-powers : (g : Polynomial) (r n : ℕ) → length (powers g r n) ≡ n
+pub length-powers : (g : Polynomial) (r n : ℕ) → length (powers g r n) ≡ n
 length-powers g r zero = refl
 length-powers g r (suc n) = ap suc (length-powers g (r + 1) n)
 

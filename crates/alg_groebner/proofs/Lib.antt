@@ -36,6 +36,7 @@ pub mod Answered
 pub mod Begun
 pub mod Bounded
 pub mod CertificateBounds
+pub mod CertificatePowers
 pub mod Coefficients
 pub mod Limited
 pub mod Over

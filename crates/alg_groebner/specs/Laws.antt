@@ -56,6 +56,13 @@ CertificatesAreWithin =
     length hyps < 2 ^ 31 → power ≤ 16 → limit ≤ 1000000 →
     (last : State) (r : ℕ) → Comes hyps g power limit last (Proved r) → IsCertWithin n (certificate last r)
 
+-- and its power is one of those that are sought
+abbrev pub PowersAreSought : Type 0
+PowersAreSought =
+    (hyps : List Polynomial) (g : Polynomial) (power limit : ℕ) → length hyps < 2 ^ 31 → power ≤ 16 →
+    limit ≤ 1000000 → (last : State) (r : ℕ) → Comes hyps g power limit last (Proved r) →
+    (certificate last r).power ≤ power
+
 -- the lines of each run cite earlier lines, and the steps to each remainder cite lines
 abbrev pub RunsCite : Type 0
 RunsCite =

@@ -3,3 +3,4 @@ pub mod OneVerdict
 pub mod Within
 pub mod Tasks
 pub mod Right
+pub mod Accepted

@@ -47,7 +47,7 @@ numbered_is atoms file (w ∷ uses) =
 
 module _ (good : CertificatesAreGood) (file : File) (e : Equation) (numbers : List ℤ) (cert : Cert) where
   -- the certificate of a search is good over what was prepared for it
-  certified : (uses : List Use) (power limit : ℕ) → IsNsatz file e uses power limit →
+  pub certified : (uses : List Use) (power limit : ℕ) → IsNsatz file e uses power limit →
       IsVerdictOf file e uses power limit (NsatzVerdict.Proved numbers cert) →
       IsGood (prepared_hyps file e uses) (prepared_goal file e uses) cert
   certified uses power limit is proved =

@@ -1,5 +1,5 @@
 -- What holds of the verdicts by nsatz.
-use Rattle.std.specs.Prelude.{◌≡◌, ◌<◌, ◌≤◌, ℕ, ℤ, List, [], length, All}
+use Rattle.std.specs.Prelude.{◌≡◌, ◌<◌, ◌≤◌, ℕ, ℤ, List, [], length, All, Some}
 use Rattle.alg_terms.specs.declared.file.File.{File}
 use Rattle.alg_terms.specs.declared.goals.Goal.{Goal}
 use Rattle.alg_terms.specs.GoalRules.{IsGoal, IsHyp}
@@ -7,7 +7,10 @@ use Rattle.alg_terms.specs.Members.{goal_at, uses_of}
 use Rattle.alg_terms.specs.Valid.{IsValid}
 use Rattle.alg_universe.specs.declared.universe.Universe.{Ghosts}
 use Rattle.alg_universe.specs.Right.{IsRight}
+use Rattle.alg_lines.specs.declared.answer.Answer.TheVariants.{Certified}
+use Rattle.alg_lines.specs.declared.answer.GoalCheck.TheVariants.{OkProved}
 use Rattle.alg_lines.specs.declared.cert.Cert.{Cert}
+use Rattle.alg_check.specs.Reports.{IsReport}
 use Rattle.alg_groebner.specs.Within.{IsCertWithin, IsMagnitude}
 use Rattle.alg_reify.specs.Table.{MAX_ATOMS, table}
 use Rattle.alg_nsatz.specs.Verdict.{NsatzVerdict, IsNsatzVerdict}
@@ -31,3 +34,10 @@ abbrev pub ProvedIsRight : {E : Type 0} → Ghosts E → Type 0
 ProvedIsRight u =
     (file : File) (i : ℕ) → IsValid file → i < length file.goals → (constants : List ℤ) (cert : Cert) →
     IsNsatzVerdict file (goal_at file i) (NsatzVerdict.Proved constants cert) → IsRight u file i [] constants
+
+-- the certificate of such a goal, printed with its constants, is accepted
+abbrev pub ProvedIsAccepted : Type 0
+ProvedIsAccepted =
+    (file : File) (i : ℕ) → IsValid file → i < length file.goals → (constants : List ℤ) (cert : Cert) →
+    IsNsatzVerdict file (goal_at file i) (NsatzVerdict.Proved constants cert) →
+    IsReport file (goal_at file i) (Some (Certified constants cert)) OkProved

@@ -1,7 +1,7 @@
 //! What holds of the verdicts by nsatz. The functions do nothing: their contracts are the laws.
 
 ghost use Rattle.alg_check.specs.Certificates.{CertificatesHold};
-ghost use Rattle.alg_nsatz.specs.Laws.{OneNsatzVerdict, ProvedIsRight, ProvedIsWithin};
+ghost use Rattle.alg_nsatz.specs.Laws.{OneNsatzVerdict, ProvedIsAccepted, ProvedIsRight, ProvedIsWithin};
 
 use alg_universe::Universe;
 
@@ -36,4 +36,13 @@ pub fn proved_is_right<U: Universe>()
 {
     alg_check::laws::certified_is_right::<U>();
     alg_groebner::laws::certificates_are_good();
+}
+
+/// A goal of a valid file whose verdict is Proved is reported proved, where its certificate and its
+/// constants are its answer.
+pub fn proved_is_accepted()
+    ensures { ProvedIsAccepted }
+{
+    alg_groebner::laws::certificates_are_good();
+    alg_groebner::laws::powers_are_sought();
 }

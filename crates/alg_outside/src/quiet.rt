@@ -57,7 +57,10 @@ impl Source for QuietSource {
 pub struct QuietSink;
 
 impl QuietSink {
-    pub fn new() -> QuietSink {
+    pub fn new() -> QuietSink
+        ensures written { ⟦<QuietSink as Sink>⟧.written result ≡ None }
+        ensures flushed { ⟦<QuietSink as Sink>⟧.flushed result ≡ None }
+    {
         QuietSink
     }
 }

@@ -14,6 +14,7 @@ use Rattle.alg_terms.specs.declared.term.Term.{Term}
 use Rattle.alg_terms.specs.Members.{goal_at}
 use Rattle.alg_universe.specs.declared.universe.Universe.{Ghosts}
 use Rattle.alg_universe.specs.Right.{IsRight}
+use Rattle.alg_reify.specs.Answers.{field_answer, ring_answer}
 use Rattle.alg_reify.specs.RingVerdict.{RingVerdict, IsRingVerdict, SidesDiffer}
 use Rattle.alg_reify.specs.FieldLaws.{OneFieldVerdict}
 use Rattle.alg_reify.specs.FieldVerdict.{FieldVerdict, IsFieldVerdict}
@@ -22,7 +23,7 @@ use Rattle.alg_field.specs.Laws as field
 use Rattle.alg_nsatz.specs.Laws as nsatz
 use Rattle.alg_nsatz.specs.Verdict.{NsatzVerdict, IsVerdictBy}
 use Rattle.alg_ring.specs.Laws as ring
-use Rattle.alg_prover.specs.Answers.{answer_of, field_answer_of, nsatz_answer_of, IsAnswerBy, IsAnswer}
+use Rattle.alg_prover.specs.Answers.{nsatz_answer_of, IsAnswerBy, IsAnswer}
 use Rattle.alg_prover.specs.Laws.{OneAnswer, ProvedIsRight, CertifiedIsRight, NoDiffers}
 
 -- the laws that a verdict is determined
@@ -33,8 +34,8 @@ pub record AreDetermined : Type 0 where
 
 one_by : AreDetermined → (file : File) (e : Equation) (method : Method) (a b : Answer) →
     IsAnswerBy file e method a → IsAnswerBy file e method b → a ≡ b
-one_by law file e ByRing a b (v, h, p) (w, k, q) = p ∙ ap answer_of (law.by_ring file e v w h k) ∙ sym q
-one_by law file e ByField a b (v, h, p) (w, k, q) = p ∙ ap field_answer_of (law.by_field file e v w h k) ∙ sym q
+one_by law file e ByRing a b (v, h, p) (w, k, q) = p ∙ ap ring_answer (law.by_ring file e v w h k) ∙ sym q
+one_by law file e ByField a b (v, h, p) (w, k, q) = p ∙ ap field_answer (law.by_field file e v w h k) ∙ sym q
 one_by law file e (ByNsatz uses power limit) a b (v, h, p) (w, k, q) =
     let goal : Goal = record { equation = e; method = ByNsatz uses power limit } in
     p ∙ ap nsatz_answer_of (law.by_nsatz file goal v w h k) ∙ sym q
@@ -56,7 +57,7 @@ one_answer law file one other h k = one_each law file file.goals one other h k
 
 -- an answer proved is that of the verdict proved, without conditions
 proved_only : (file : File) (e : Equation) (conditions : List Term) (v : RingVerdict) → IsRingVerdict file e v →
-    Proved conditions ≡ answer_of v → (conditions ≡ []) × IsRingVerdict file e RingVerdict.Proved
+    Proved conditions ≡ ring_answer v → (conditions ≡ []) × IsRingVerdict file e RingVerdict.Proved
 proved_only file e conditions RingVerdict.Atoms h same = absurd (cc)
 proved_only file e conditions RingVerdict.Range h same = absurd (cc)
 proved_only file e conditions RingVerdict.Degree h same = absurd (cc)
@@ -65,7 +66,7 @@ proved_only file e conditions (RingVerdict.No m a b) h same = absurd (cc)
 
 -- and by field that of the verdict proved with its conditions
 proved_under : (file : File) (e : Equation) (conditions : List Term) (v : FieldVerdict) → IsFieldVerdict file e v →
-    Proved conditions ≡ field_answer_of v → IsFieldVerdict file e (FieldVerdict.Proved conditions)
+    Proved conditions ≡ field_answer v → IsFieldVerdict file e (FieldVerdict.Proved conditions)
 proved_under file e conditions FieldVerdict.Atoms h same = absurd (cc)
 proved_under file e conditions FieldVerdict.Range h same = absurd (cc)
 proved_under file e conditions FieldVerdict.Degree h same = absurd (cc)
@@ -103,14 +104,14 @@ proved_is_right u ring_law field_law file i conditions valid low h =
     proved_by u (goal_at file i).method file i conditions (λ by proved. ring_law file i valid low by proved)
     (λ by proved. field_law file i conditions valid low by proved) h
 
-never_certified : (constants : List ℤ) (cert : Cert) (v : RingVerdict) → Certified constants cert ≡ answer_of v → ⊥
+never_certified : (constants : List ℤ) (cert : Cert) (v : RingVerdict) → Certified constants cert ≡ ring_answer v → ⊥
 never_certified constants cert RingVerdict.Atoms same = cc
 never_certified constants cert RingVerdict.Range same = cc
 never_certified constants cert RingVerdict.Degree same = cc
 never_certified constants cert RingVerdict.Proved same = cc
 never_certified constants cert (RingVerdict.No m a b) same = cc
 
-never_by_field : (constants : List ℤ) (cert : Cert) (v : FieldVerdict) → Certified constants cert ≡ field_answer_of v →
+never_by_field : (constants : List ℤ) (cert : Cert) (v : FieldVerdict) → Certified constants cert ≡ field_answer v →
     ⊥
 never_by_field constants cert FieldVerdict.Atoms same = cc
 never_by_field constants cert FieldVerdict.Range same = cc
@@ -147,7 +148,7 @@ certified_is_right u law file i constants cert valid low h =
     law file i valid low constants cert (certified_by file goal.equation goal.method constants cert h)
 
 no_only : (file : File) (e : Equation) (at : Monomial) (left right : ℤ) (v : RingVerdict) → IsRingVerdict file e v →
-    No at left right ≡ answer_of v → IsRingVerdict file e (RingVerdict.No at left right)
+    No at left right ≡ ring_answer v → IsRingVerdict file e (RingVerdict.No at left right)
 no_only file e at left right RingVerdict.Atoms h same = absurd (cc)
 no_only file e at left right RingVerdict.Range h same = absurd (cc)
 no_only file e at left right RingVerdict.Degree h same = absurd (cc)

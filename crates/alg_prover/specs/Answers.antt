@@ -1,5 +1,5 @@
 -- The answers to the goals of a file.
-use Rattle.std.specs.Prelude.{◌≡◌, List, []}
+use Rattle.std.specs.Prelude.{◌≡◌, List}
 use Rattle.std.specs.List.{AllZip}
 use Rattle.alg_terms.specs.declared.file.File.{File}
 use Rattle.alg_terms.specs.declared.goals.Equation.{Equation}
@@ -7,28 +7,10 @@ use Rattle.alg_terms.specs.declared.goals.Goal.{Goal}
 use Rattle.alg_terms.specs.declared.goals.Method.{Method}
 use Rattle.alg_terms.specs.declared.goals.Method.TheVariants.{ByRing, ByField, ByNsatz}
 use Rattle.alg_lines.specs.declared.answer.Answer.{Answer}
-use Rattle.alg_lines.specs.declared.answer.Answer.TheVariants.{Proved, Certified, No, ZeroDenominator, NoneUpTo, GaveUp, Atoms, Range, Degree}
+use Rattle.alg_lines.specs.declared.answer.Answer.TheVariants.{Certified, NoneUpTo, GaveUp, Atoms, Range, Degree}
 use Rattle.alg_reify.specs.declared.stop.Stop.{Stop}
-use Rattle.alg_reify.specs.FieldVerdict.{FieldVerdict, IsFieldVerdict}
-use Rattle.alg_reify.specs.RingVerdict.{RingVerdict, IsRingVerdict}
+use Rattle.alg_reify.specs.Answers.{IsFieldAnswer, IsRingAnswer}
 use Rattle.alg_nsatz.specs.Verdict.{NsatzVerdict, IsVerdictOf}
-
--- a verdict by ring as an answer: what is proved by ring is proved without conditions
-abbrev pub answer_of : RingVerdict → Answer
-answer_of RingVerdict.Atoms = Atoms
-answer_of RingVerdict.Range = Range
-answer_of RingVerdict.Degree = Degree
-answer_of RingVerdict.Proved = Proved []
-answer_of (RingVerdict.No at left right) = No at left right
-
--- a verdict by field as an answer
-abbrev pub field_answer_of : FieldVerdict → Answer
-field_answer_of FieldVerdict.Atoms = Atoms
-field_answer_of FieldVerdict.Range = Range
-field_answer_of FieldVerdict.Degree = Degree
-field_answer_of (FieldVerdict.ZeroDenominator t) = ZeroDenominator t
-field_answer_of (FieldVerdict.Proved conditions) = Proved conditions
-field_answer_of (FieldVerdict.No at left right) = No at left right
 
 -- a verdict by nsatz as an answer: what is proved is so by a certificate
 abbrev pub nsatz_answer_of : NsatzVerdict → Answer
@@ -41,9 +23,8 @@ nsatz_answer_of (NsatzVerdict.GaveUp limit) = GaveUp limit
 
 -- the answer to an equation by a method
 abbrev pub IsAnswerBy : File → Equation → Method → Answer → Type 0
-IsAnswerBy file e ByRing answer = (verdict : RingVerdict) × IsRingVerdict file e verdict × (answer ≡ answer_of verdict)
-IsAnswerBy file e ByField answer =
-    (verdict : FieldVerdict) × IsFieldVerdict file e verdict × (answer ≡ field_answer_of verdict)
+IsAnswerBy file e ByRing answer = IsRingAnswer file e answer
+IsAnswerBy file e ByField answer = IsFieldAnswer file e answer
 IsAnswerBy file e (ByNsatz uses power limit) answer =
     (verdict : NsatzVerdict) × IsVerdictOf file e uses power limit verdict × (answer ≡ nsatz_answer_of verdict)
 

@@ -16,6 +16,7 @@ pub mod NumberedFractions
 pub mod KeptFractions
 pub mod FractionsIn
 pub mod FieldRanges
+pub mod FieldOccurring
 pub mod FieldTerms
 pub mod FieldVerdicts
 pub mod FractionsAlong

@@ -1,7 +1,7 @@
 -- The conditions of a verdict by field, and its denominator that is zero, are terms that may stand in an answer.
 use Rattle.std.specs.Prelude.{◌≡◌, ◌≤◌, ◌⊎◌, Bool, true, false, cond, List, [], ◌∷◌, ◌++◌, All, Contains}
 use Rattle.std.proofs.Common.{sym, subst, inl, inr}
-use Rattle.std.proofs.lemmas.List.Elements.{All-nil, All-cons, All-contains, All-weaker}
+use Rattle.std.proofs.lemmas.List.Elements.{All-nil, All-cons, All-head, All-tail, All-contains, All-weaker}
 use Rattle.alg_terms.specs.declared.file.File.{File}
 use Rattle.alg_terms.specs.declared.goals.Equation.{Equation}
 use Rattle.alg_terms.specs.declared.goals.Goal.{Goal}
@@ -59,7 +59,7 @@ module _ (Q : Term → Type 0) where
     abbrev Zero : FractionOutcome → Type 0
     Zero o = o ≡ FractionOutcome.ZeroDenominator v
 
-    in_order : (a b : FractionOutcome) (o : Outcome) → (Zero a → Q v) → (Zero b → Q v) →
+    pub in_order : (a b : FractionOutcome) (o : Outcome) → (Zero a → Q v) → (Zero b → Q v) →
         Zero (first_not_fine a (first_not_fine b (of_polynomials o))) → Q v
     in_order a b o in_a in_b h =
         elim (either a (first_not_fine b (of_polynomials o)) v h) [
@@ -74,7 +74,7 @@ module _ (Q : Term → Type 0) where
     at_quotient true u o is h = subst Q (same_denominator u v h) is
     at_quotient false u o is h = absurd (no_denominator o v h)
 
-    zero_is_one : (t : Term) → EachTerm Q (denominators t) → Zero (frac_outcome t) → Q v
+    pub zero_is_one : (t : Term) → EachTerm Q (denominators t) → Zero (frac_outcome t) → Q v
     unfolding denominators frac_outcome
     zero_is_one (Var k) h z = absurd (cc)
     zero_is_one (Int n) h z = absurd (cc)
@@ -111,9 +111,13 @@ each_to : (A B : Term → Type 0) → ((t : Term) → A t → B t) → (ts : Lis
 each_to A B to [] h = tt
 each_to A B to (t ∷ ts) h = (to t h.0, each_to A B to ts h.1)
 
-as_all : (Q : Term → Type 0) (ts : List Term) → EachTerm Q ts → All Q ts
+pub as_all : (Q : Term → Type 0) (ts : List Term) → EachTerm Q ts → All Q ts
 as_all Q [] h = All-nil Q
 as_all Q (t ∷ ts) h = All-cons Q t ts h.0 (as_all Q ts h.1)
+
+pub each_of : (Q : Term → Type 0) (ts : List Term) → All Q ts → EachTerm Q ts
+each_of Q [] h = tt
+each_of Q (t ∷ ts) h = (All-head Q t ts h, each_of Q ts (All-tail Q t ts h))
 
 module _ (file : File) where
   -- what the rules of terms say

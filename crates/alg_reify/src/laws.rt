@@ -1,7 +1,7 @@
 //! What holds of numbered polynomials and fractions and of the verdicts by ring and by field. The
 //! functions do nothing: their contracts are the laws.
 
-ghost use Rattle.alg_reify.specs.FieldLaws.{OneFieldVerdict, FieldNoDiffers, FieldNoIsOverTheTable, FieldNoIsWithinRange, FieldTermsMayStand, SidesByNumbers};
+ghost use Rattle.alg_reify.specs.FieldLaws.{OneFieldVerdict, FieldNoDiffers, FieldNoIsOverTheTable, FieldNoIsWithinRange, FieldTermsMayStand, FieldTermsOccur, SidesByNumbers};
 ghost use Rattle.alg_reify.specs.FractionsUnder.{FractionsUnderPaths};
 ghost use Rattle.alg_reify.specs.NumberedFractions.{NumberingKeeps};
 ghost use Rattle.alg_reify.specs.Laws.{NumberedCoefficients, OneRingVerdict, NoDiffers, NoIsOverTheTable, NoIsWithinRange};
@@ -80,6 +80,13 @@ pub fn field_no_is_within_range()
 /// terms that may stand in an answer to the goal.
 pub fn field_terms_may_stand()
     ensures { FieldTermsMayStand }
+{
+    alg_meaning::laws::conditions_say();
+}
+
+/// These terms use only variables and morphisms of the goal's sides.
+pub fn field_terms_occur()
+    ensures { FieldTermsOccur }
 {
     alg_meaning::laws::conditions_say();
 }
