@@ -1,9 +1,9 @@
 -- What the reports in a reply say, and that there is one for each goal.
-use Rattle.std.proofs.Common.{◌≡◌, ◌<◌, ◌≤◌, ◌+◌, ◌^◌, ◌⊎◌, ℕ, ℤ, zero, suc, inl, inr, List, [], ◌∷◌, ◌++◌, length, Option, None, Some, Ok, refl, ap, ap2, sym, subst, ◌∙◌, arith}
+use Rattle.std.proofs.Common.{◌≡◌, ◌<◌, ◌≤◌, ◌+◌, ◌^◌, ◌⊎◌, ℕ, ℤ, zero, suc, inl, inr, List, [], ◌∷◌, ◌++◌, length, Option, None, Some, Ok, refl, ap, sym, subst, ◌∙◌, arith}
 use Rattle.std.specs.Prelude.{slice_get, slice_index_or, IfSome}
 use Rattle.std.specs.Option.{option_copied}
 use denote.Ref.{Bor}
-use Rattle.std.proofs.lemmas.List.{length_push}
+use Rattle.std.proofs.lemmas.List.{get_or_default, length_push}
 use Rattle.std.proofs.lemmas.Option.{slice_get_within}
 use Rattle.std.proofs.lemmas.List.Sums.{get_or-le-sum_by}
 use Rattle.alg_annotated.specs.declared.annotated.Annotated.{Annotated}
@@ -77,8 +77,8 @@ one_list law all one other is are =
     law all.file (goal_at all.file i) (slice_index_or all.answers i None) r s (is.each i r first) (are.each i s second))
 
 -- there are reports on the first goals
-pub record AreFirst (all : Annotated) (count : ℕ) (reports : List GoalCheck) : Type 0 where
-  pub count : length reports ≡ count
+pub record AreFirst (all : Annotated) (goals : ℕ) (reports : List GoalCheck) : Type 0 where
+  pub count : length reports ≡ goals
   pub each : (i : ℕ) (report : GoalCheck) → slice_get reports i ≡ Some report →
       IsReport all.file (goal_at all.file i) (slice_index_or all.answers i None) report
 
@@ -109,6 +109,12 @@ next_report all number reports report so_far is =
 pub all_reported : (all : Annotated) (number : ℕ) (reports : List GoalCheck) → number ≡ length all.file.goals →
     AreFirst all number reports → AreReports all.file all.answers reports
 all_reported all number reports end so_far = record { count = so_far.count ∙ end; each = so_far.each }
+
+-- the answer that is read at the place of a goal
+pub read_at : (answers items : List (Option Answer)) (i : ℕ) (answer : Option Answer) → i < length answers →
+    answer ≡ slice_index_or items i answer → items ≡ answers → answer ≡ slice_index_or answers i None
+read_at answers items i answer within is same =
+    is ∙ ap (λ xs. slice_index_or xs i answer) same ∙ get_or_default answers i answer None within
 
 -- what holds of a value holds of what a reference to it reads
 pub behind : {T : Type 0} (P : T → Type 0) (reference : Option (Bor T)) (value : Option T) →

@@ -1,6 +1,6 @@
 -- From what a sink took to what a run wrote, and that an input has one reply.
 use Rattle.std.proofs.Common.{◌≡◌, ◌⊎◌, inl, inr, ℕ, List, Option, None, Some, map, sym, ap, ◌∙◌, subst, arith}
-use Rattle.std.specs.Prelude.{IfSome, Result, Ok, Err}
+use Rattle.std.specs.Prelude.{IfSome, Ok, Err}
 use Rattle.alg_outside.specs.Bytes.{Appends, ConsumesAll}
 use Rattle.alg_load.specs.Loaded.{loaded}
 use Rattle.alg_universe.specs.declared.universe.Universe.{Ghosts}
@@ -84,12 +84,12 @@ module _ {E : Type 0} (u : Ghosts E) (reading : OneReading) (annotated : OneAnno
   one_fault : (bytes : List ℕ) (fault other : Refusal) → IsReadingOf bytes (Err fault) →
       IsReadingOf bytes (Err other) → fault ≡ other
   one_fault bytes fault other one two =
-      let same : Result.Err {A = File} fault ≡ Err other = reading bytes (Err fault) (Err other) one two in cc
+      let same = reading bytes (Err fault) (Err other) one two in cc
 
   one_annotated_fault : (bytes : List ℕ) (fault other : Refusal) → IsAnnotatedReadingOf bytes (Err fault) →
       IsAnnotatedReadingOf bytes (Err other) → fault ≡ other
   one_annotated_fault bytes fault other one two =
-      let same : Result.Err {A = Annotated} fault ≡ Err other = annotated bytes (Err fault) (Err other) one two in cc
+      let same = annotated bytes (Err fault) (Err other) one two in cc
 
   answered_once : (bytes text other : List ℕ) (status planned : Status) → IsAnswered u bytes text status →
       IsAnswered u bytes other planned → IsSame text other status planned
