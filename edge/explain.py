@@ -1,7 +1,7 @@
 #!/usr/bin/env python3
 """Runs the companion `explain` on files, and compares what it shows and its exit status.
 
-What it shows of reports on certificates is tried on reports written by hand.
+What it shows of a report at each place of a certificate is tried on reports written by hand.
 
 Usage: edge/explain.py    Ends with 1 where anything differs.
 """
@@ -57,12 +57,25 @@ REPORTS = [
 ]
 
 
-def explain(content):
+# What a row shows, the file with answers, what is shown of it by `check`, the exit status.
+CHECKS = [
+    ("a right certificate", CERTIFIED,
+     ["  line  by     answer", "     4  nsatz  ok proved", "     8  ring   ok proved", "2 of 2 goals proved"], 0),
+    ("a step that cites no line", CERTIFIED.replace("step 1 minus 1, 1.", "step 1 minus 1, 3."),
+     ["  line  by     answer", "     4  nsatz  bad at the step in line 7 of the file, step number 1",
+      "     8  ring   ok proved", "1 of 2 goals proved"], 1),
+    ("an answer of another method", RING + "goal x = x by ring.\n  none up to power 1.\n",
+     [":4:3: an answer has a form that is none of the goal's method (code 17)",
+      "    4 |   none up to power 1.", "      |   ^", "mend it by: leaving it out"], 2),
+]
+
+
+def explain(content, *words):
     """What `explain` shows of a file with this content, and its exit status."""
     with tempfile.NamedTemporaryFile(suffix=".alg") as file:
         file.write(content if isinstance(content, bytes) else content.encode())
         file.flush()
-        done = subprocess.run([TOP / "explain", file.name], capture_output=True, text=True)
+        done = subprocess.run([TOP / "explain", file.name, *words], capture_output=True, text=True)
         return done.stdout.replace(file.name, "").splitlines(), done.returncode
 
 
@@ -78,6 +91,9 @@ def wrong_tables():
     for name, content, lines, status in TABLES:
         if explain(content) != (lines, status):
             yield name, *explain(content)
+    for name, content, lines, status in CHECKS:
+        if explain(content, "check") != (lines, status):
+            yield name, *explain(content, "check")
 
 
 def companion():
@@ -110,7 +126,7 @@ def main():
     wrong = [*wrong_refusals(), *wrong_tables(), *wrong_reports(module), *codes_that_differ(module)]
     for name, lines, status in wrong:
         print(f"explain: {name}: {lines}, status {status}")
-    tried = len(REFUSALS) + len(TABLES) + len(REPORTS) + 1
+    tried = len(REFUSALS) + len(TABLES) + len(CHECKS) + len(REPORTS) + 1
     print(f"explain: {tried - len(wrong)} of {tried} right")
     return 1 if wrong else 0
 
