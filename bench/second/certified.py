@@ -63,14 +63,15 @@ class Values:
         return pow(value, -1, self.prime)
 
     def unary(self, path):
-        if self.sees("-"):
+        sign = 1
+        while self.sees("-"):
             self.take()
-            return -self.unary(path)
+            sign = -sign
         value = self.leaf(path)
         if self.sees("^"):
             self.take()
             value = pow(value, int(self.take()), self.prime)
-        return value
+        return sign * value
 
     def leaf(self, path):
         token = self.take()
