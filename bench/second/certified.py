@@ -147,8 +147,8 @@ class Checker:
         values = Values(self.rng)
         lines, goal = [], difference(values, equation)
         names = split(method[2 : method.index("power")], ",") if "using" in method else []
-        for name in (re.findall(r"[^()]+", " ".join(n)) for n in names):
-            *path, hyp = (part.strip() for part in name)
+        for use in names:
+            *path, hyp = (token for token in use if token not in ("(", ")"))
             value = difference(values, self.hyps[hyp], tuple(path))
             if "<>" in self.hyps[hyp]:
                 goal *= value
