@@ -1,17 +1,21 @@
 #!/usr/bin/env python3
-"""Times the built program on goals of growing size and prints a table. It is no test.
+"""Times the built program on files of growing size and prints a table. It is no test.
 
 Run from anywhere: bench/bench.py [--program PROGRAM] [WORD]. With a word only the rows that have it
 in their name are run. The program is crates/alg_cli/out/alg_cli where none is named. Each row: what
-the file has, its bytes, the exit status, seconds, peak memory in MB.
+the file has, its bytes, the exit status, seconds of processor time, peak memory in MB. Rows that
+begin with `check` run `check`, all others `prove`.
 """
 
 import argparse
 import os
-import resource
+import signal
 import subprocess
 import sys
-import time
+import tempfile
+from functools import partial
+
+from measured import measured
 
 TOP = os.path.dirname(os.path.dirname(os.path.abspath(__file__)))
 PROGRAM = f"{TOP}/crates/alg_cli/out/alg_cli"
@@ -92,45 +96,76 @@ def small_field_goals(count):
     return field_file(names(2), goals)
 
 
-def run(program, text):
-    before = resource.getrusage(resource.RUSAGE_CHILDREN).ru_maxrss
-    start = time.monotonic()
-    try:
-        done = subprocess.run([program, "prove"], input=text.encode(), stdout=subprocess.DEVNULL, timeout=SECONDS)
-        status = str(done.returncode)
-    except subprocess.TimeoutExpired:
-        status = f"over {SECONDS} s"
-    seconds = time.monotonic() - start
-    peak = max(before, resource.getrusage(resource.RUSAGE_CHILDREN).ru_maxrss)
-    return status, seconds, peak / 1024
+def certificate(count):
+    """A certificate of so many lines, each the one before less the one before that, so that they stay short."""
+    head = "domain D.\nvar x y : D.\nhyp P : x = 0.\nhyp Q : y = 0.\n"
+    head += "goal x = 0 by nsatz using P, Q power 1 limit 10000.\n"
+    lines = "".join(f"  line 1, {k} minus 1, {k - 1}.\n" for k in range(2, count + 2))
+    return f"{head}  proved version 2 power 1.\n{lines}  step 1 minus 1, 1.\n"
+
+
+ANSWERED_GOALS = """goal x + {k} = {k} + x by ring.
+  proved.
+goal x + {k} = x by ring.
+  no at 1 : {k} and 0.
+goal {k}/x = {k}*x/x^2 by field.
+  proved if x <> 0, x^2 <> 0.
+goal {k}*x = 0 by nsatz using H power 1 limit 10000.
+  proved version 2 power 1.
+  step 1 minus {k}, 1.
+"""
+
+
+def answered_goals(most):
+    """At most so many bytes of short goals with their answers."""
+    head = "field F.\nvar x : F.\nhyp H : x = 0.\n"
+    parts = [head]
+    left, k = most - len(head), 1
+    while (part := ANSWERED_GOALS.format(k=k)) and len(part) <= left:
+        parts.append(part)
+        left, k = left - len(part), k + 1
+    return "".join(parts)
+
+
+ROWS = [
+    ("1 MB of short statements", partial(short_statements, 1_000_000)),
+    ("3,000 small goals", partial(small_goals, 3_000)),
+    *((f"a goal under {depth} morphisms", partial(under_paths, depth)) for depth in (50, 190)),
+    *((f"(x1 + .. + x5)^{n}, two ways", partial(power, 5, n)) for n in (6, 12, 18, 24)),
+    *((f"product of {n} unknowns, both ways round", partial(product, n)) for n in (8, 10, 12, 14, 16)),
+    *((f"continued fraction of depth {depth}", partial(continued_fraction, depth)) for depth in (4, 8, 12, 16)),
+    *((f"telescope of {terms} quotients", partial(telescope, terms)) for terms in (8, 16, 32)),
+    *((f"sum of {n} inverses, both ways round", partial(inverses, n)) for n in (6, 10, 12)),
+    ("1,000 small goals by field", partial(small_field_goals, 1_000)),
+    *((f"check a certificate of {n:,} lines", partial(certificate, n)) for n in (5_000, 10_000)),
+    *((f"check {size} MB of goals with answers", partial(answered_goals, size << 20)) for size in (8, 16)),
+]
+
+
+def run(program, what, text):
+    """The exit status in words, seconds of processor time, and the peak memory in MB."""
+    word = "check" if what.startswith("check ") else "prove"
+    with tempfile.TemporaryFile("w+") as given:
+        given.write(text)
+        given.seek(0)
+        status, seconds, peak = measured([program, word], given, subprocess.DEVNULL, SECONDS)
+    return f"over {SECONDS} s" if status == -signal.SIGXCPU else str(status), seconds, peak
 
 
 def main():
-    parser = argparse.ArgumentParser(description="Times the built program on goals of growing size.")
+    parser = argparse.ArgumentParser(description="Times the built program on files of growing size.")
     parser.add_argument("--program", default=PROGRAM)
     parser.add_argument("word", nargs="?", default="", help="run only the rows with it in their name")
     given = parser.parse_args()
     if not os.path.exists(given.program):
-        print(f"{given.program} is not there: build it by ./alg prove < examples/square.alg", file=sys.stderr)
+        print(f"{given.program} is not there: build it by ./build", file=sys.stderr)
         return 1
-    rows = [
-        ("1 MB of short statements", short_statements(1_000_000)),
-        ("3,000 small goals", small_goals(3_000)),
-        ("a goal under 50 morphisms", under_paths(50)),
-        ("a goal under 190 morphisms", under_paths(190)),
-    ]
-    rows += [(f"(x1 + .. + x5)^{n}, two ways", power(5, n)) for n in (6, 12, 18, 24)]
-    rows += [(f"product of {count} unknowns, both ways round", product(count)) for count in (8, 10, 12, 14, 16)]
-    rows += [(f"continued fraction of depth {depth}", continued_fraction(depth)) for depth in (4, 8, 12, 16)]
-    rows += [(f"telescope of {terms} quotients", telescope(terms)) for terms in (8, 16, 32)]
-    rows += [(f"sum of {count} inverses, both ways round", inverses(count)) for count in (6, 10, 12)]
-    rows.append(("1,000 small goals by field", small_field_goals(1_000)))
-    print(f"{'what':44} {'bytes':>8} {'status':>9} {'seconds':>8} {'peak MB':>8}")
-    for what, text in rows:
-        if given.word not in what:
-            continue
-        status, seconds, peak = run(given.program, text)
-        print(f"{what:44} {len(text):8} {status:>9} {seconds:8.2f} {peak:8.0f}", flush=True)
+    print(f"{'what':44} {'bytes':>10} {'status':>9} {'seconds':>8} {'peak MB':>8}")
+    for what, make in ROWS:
+        if given.word in what:
+            text = make()
+            status, seconds, peak = run(given.program, what, text)
+            print(f"{what:44} {len(text):10,} {status:>9} {seconds:8.2f} {peak:8.0f}", flush=True)
     return 0
 
 

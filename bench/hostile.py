@@ -7,16 +7,17 @@ none is named. The parts: one allocation refused a run, each in turn, for `prove
 the address space cut; a full device and a closed input; terms, forms and certificates of the greatest
 depth on a stack of 8 MB; and N generated files (20,000), valid or spoilt in tokens, numbers, bytes and
 lengths, through `prove`, and what comes of them, spoilt again, through `check`. No run may crash or
-take over ten seconds, and each proof that is written or reported is tried by `second.certified`, which
-shares nothing with the program. Allocations are refused by a small library in C, for which gcc is
-needed. A file that fails is kept in the folder hostile_failures of the temporary folder. The exit
-status is 1 where something failed. What the program can't do yet is left out, and said.
+take over ten seconds of processor time, and each proof that is written or reported is tried by
+`second.certified`, which shares nothing with the program. Allocations are refused by a small library in
+C, for which gcc is needed. A file that fails is kept in the folder hostile_failures of the temporary
+folder. The exit status is 1 where something failed. What the program can't do yet is left out, and said.
 """
 
 import argparse
 import os
 import random
 import resource
+import signal
 import subprocess
 import sys
 import tempfile
@@ -32,18 +33,30 @@ TOP = os.path.dirname(os.path.dirname(os.path.abspath(__file__)))
 FAILURES = os.path.join(tempfile.gettempdir(), "hostile_failures")
 SECONDS = 10
 LONG = 300
+PATIENCE = 30
 MEGABYTE = 1 << 20
 OUT_OF_MEMORY = (b"", 6)
 
 
-def run(program, word, data=b"", seconds=SECONDS, **options):
-    """What is written and the exit status, which is None where it takes too long."""
-    words = word.split()
+def run(program, word, data=b"", seconds=SECONDS, limits=(), **options):
+    """What is written and the exit status, which is None where it takes too much processor time.
+
+    The clock is given more, since on a busy machine a run waits for its turn.
+    """
+    limits = [(resource.RLIMIT_CPU, seconds), *limits]
+
+    def limited():
+        for kind, size in limits:
+            resource.setrlimit(kind, (size, size + 1))
+
+    command = [program, *word.split()]
     try:
-        done = subprocess.run([program, *words], input=data, capture_output=True, timeout=seconds, **options)
+        done = subprocess.run(
+            command, input=data, capture_output=True, timeout=PATIENCE * seconds, preexec_fn=limited, **options
+        )
     except subprocess.TimeoutExpired:
         return b"", None
-    return done.stdout + done.stderr, done.returncode
+    return done.stdout + done.stderr, None if done.returncode == -signal.SIGXCPU else done.returncode
 
 
 class Report:
@@ -120,7 +133,7 @@ def last_needed(refusal, command):
     """The greatest number of an allocation without which the command ends otherwise."""
 
     def end(options):
-        return subprocess.run(command, capture_output=True, timeout=SECONDS, **options).returncode
+        return subprocess.run(command, capture_output=True, timeout=PATIENCE * SECONDS, **options).returncode
 
     whole = end({})
     number = refusal.allocations(end)
@@ -129,14 +142,10 @@ def last_needed(refusal, command):
     return number
 
 
-def limited(kind, size):
-    return {"preexec_fn": lambda: resource.setrlimit(kind, (size, size))}
-
-
 def cut_address_space(report, part):
     for size in (50, 100, 300):
-        options = limited(resource.RLIMIT_AS, size * MEGABYTE)
-        report.compare(part, f"{size} MB", "prove", GREEDY, (OUT_OF_MEMORY,), seconds=LONG, **options)
+        limits = [(resource.RLIMIT_AS, size * MEGABYTE)]
+        report.compare(part, f"{size} MB", "prove", GREEDY, (OUT_OF_MEMORY,), seconds=LONG, limits=limits)
 
 
 def bad_streams(report, part):
@@ -145,23 +154,23 @@ def bad_streams(report, part):
     for word in words:
         for streams, status in (("> /dev/full", 5), ("<&-", 4 if word in ("prove", "check") else None)):
             command = ["sh", "-c", f'exec "$0" {word} {streams}', report.program]
-            done = subprocess.run(command, input=TWELVE, capture_output=True, timeout=SECONDS)
+            done = subprocess.run(command, input=TWELVE, capture_output=True, timeout=PATIENCE * SECONDS)
             wanted = done.returncode in (0, 1, 3) if status is None else (done.stdout, done.returncode) == (b"", status)
             report.tell(part, wanted, f"{word} {streams}: status {done.returncode}")
 
 
 def deep_stack(report, part):
     """What is as deep as it may be, on a stack of 8 MB: each is proved, or accepted."""
-    options = limited(resource.RLIMIT_STACK, 8 * MEGABYTE)
+    options = {"seconds": LONG, "limits": [(resource.RLIMIT_STACK, 8 * MEGABYTE)]}
     for name, text in deep_files():
-        written, status = run(report.program, "prove", text.encode(), seconds=LONG, **options)
+        written, status = run(report.program, "prove", text.encode(), **options)
         report.tell(part, status == 0, f"{name}: status {status}, {written[-80:]!r}", text.encode())
     if not report.checks:
         report.leave_out(f"{part}: certificates", "there is no command check yet")
         return
     for name, text in deep_certificates():
         wanted = (b"goal 1: ok proved\n", 0)
-        report.compare(part, name, "check", text.encode(), (wanted,), seconds=LONG, **options)
+        report.compare(part, name, "check", text.encode(), (wanted,), **options)
 
 
 def wrong_of(text, numbers=None):

@@ -55,8 +55,8 @@ def text_of(poly):
 
 def run(program, problem, limit):
     """How the search ends, its seconds, and its peak memory in MB."""
-    hyps, goal, power = problem
-    text = "\n".join([f"{power} {limit}", text_of(goal), *map(text_of, hyps)]) + "\n"
+    polys = [problem.goal, *problem.hyps]
+    text = "\n".join([f"{problem.power} {limit}", *map(text_of, polys)]) + "\n"
     start = time.time()
     with tempfile.TemporaryFile("w+") as given, tempfile.TemporaryFile("w+") as taken:
         given.write(text)

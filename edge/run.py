@@ -24,12 +24,71 @@ goal x = 0 by nsatz using H power 1 limit 10000.
   proved version 2 power 1 if 2 <> 0.
   step 2 minus 1, 1.
 """
+DECLARED = b"""ring R.
+field F char 0.
+hom f : R -> F.
+var a b c d : R.
+var u v w t : F.
+hyp E : a = b.
+hyp H : u*v = 1.
+hyp K : u*w = 1.
+hyp P : u + t = 0.
+hyp Q : u - t = 0.
+hyp S : w^2 = 0.
+"""
+GOALS = b"""goal (a + b)*(a - b) = a^2 - b^2 by ring.
+goal (a + b)^3 = a^3 + 3*a^2*b + 3*a*b^2 + b^3 by ring.
+goal (a^2 + b^2)*(c^2 + d^2) = (a*c - b*d)^2 + (a*d + b*c)^2 by ring.
+goal f(a*b + c) = f(a)*f(b) + f(c) by ring.
+goal f((a - b)^2) = f(a)^2 - 2*f(a)*f(b) + f(b)^2 by ring.
+goal u/v + w/t = (u*t + w*v)/(v*t) by field.
+goal 1/(u - v) - 1/(u + v) = 2*v/(u^2 - v^2) by field.
+goal f(a)/2 + f(a)/2 = f(a) by field.
+goal v = w by nsatz using H, K.
+goal t = 0 by nsatz using P, Q.
+goal f(a)^2 = f(b)^2 by nsatz using f(E).
+goal w = 0 by nsatz using S power 2.
+"""
+GOALS_ANSWERED = b"""goal (a + b)*(a - b) = a^2 - b^2 by ring.
+  proved.
+goal (a + b)^3 = a^3 + 3*a^2*b + 3*a*b^2 + b^3 by ring.
+  proved.
+goal (a^2 + b^2)*(c^2 + d^2) = (a*c - b*d)^2 + (a*d + b*c)^2 by ring.
+  proved.
+goal f(a*b + c) = f(a)*f(b) + f(c) by ring.
+  proved.
+goal f((a - b)^2) = f(a)^2 - 2*f(a)*f(b) + f(b)^2 by ring.
+  proved.
+goal u/v + w/t = (u*t + w*v)/(v*t) by field.
+  proved if v <> 0, t <> 0, v*t <> 0.
+goal 1/(u - v) - 1/(u + v) = 2*v/(u^2 - v^2) by field.
+  proved if u - v <> 0, u + v <> 0, u^2 - v^2 <> 0.
+goal f(a)/2 + f(a)/2 = f(a) by field.
+  proved.
+goal v = w by nsatz using H, K power 1 limit 10000.
+  proved version 2 power 1.
+  line 1, w, 1 minus 1, v, 2.
+  step 1 minus 1, 3.
+goal t = 0 by nsatz using P, Q power 1 limit 10000.
+  proved version 2 power 1.
+  line 1, 2 minus -1, 1 over 2.
+  step 1 minus 1, 1.
+  step 1 minus -1, 3.
+goal f(a)^2 = f(b)^2 by nsatz using f(E) power 1 limit 10000.
+  proved version 2 power 1.
+  step 1 minus 1, f(a), 1.
+  step 1 minus 1, f(b), 1.
+goal w = 0 by nsatz using S power 2 limit 10000.
+  proved version 2 power 2.
+  step 1 minus 1, 1.
+"""
 MANY = b"ring R.\nvar x : R.\n" + b"goal x + x = 2*x by ring.\n" * 30_000
 MANY_ANSWERED = MANY.replace(b"by ring.\n", b"by ring.\n  proved.\n")
 
 # What a row shows, the words, the input, the bytes that are to be written, the exit status.
 INPUTS = [
     ("all goals are proved", ["prove"], PROVED, PROVED + b"  proved.\n", 0),
+    ("goals by each method", ["prove"], DECLARED + GOALS, DECLARED + GOALS_ANSWERED, 0),
     ("no goals", ["prove"], b"", b"", 0),
     ("more than a pipe holds", ["prove"], MANY, MANY_ANSWERED, 0),
     ("a goal is not proved", ["prove"], DIFFERS, DIFFERS + b"  no at x*y : 2 and 0.\n", 1),

@@ -63,14 +63,15 @@ class Values:
         return pow(value, -1, self.prime)
 
     def unary(self, path):
-        if self.sees("-"):
+        sign = 1
+        while self.sees("-"):
             self.take()
-            return -self.unary(path)
+            sign = -sign
         value = self.leaf(path)
         if self.sees("^"):
             self.take()
             value = pow(value, int(self.take()), self.prime)
-        return value
+        return sign * value
 
     def leaf(self, path):
         token = self.take()
@@ -146,8 +147,8 @@ class Checker:
         values = Values(self.rng)
         lines, goal = [], difference(values, equation)
         names = split(method[2 : method.index("power")], ",") if "using" in method else []
-        for name in (re.findall(r"[^()]+", " ".join(n)) for n in names):
-            *path, hyp = (part.strip() for part in name)
+        for use in names:
+            *path, hyp = (token for token in use if token not in ("(", ")"))
             value = difference(values, self.hyps[hyp], tuple(path))
             if "<>" in self.hyps[hyp]:
                 goal *= value

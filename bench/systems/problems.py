@@ -1,6 +1,8 @@
 """Systems of equations for the search: a polynomial is a dictionary from exponents to coefficients."""
 
+from functools import partial
 from itertools import combinations
+from typing import NamedTuple
 
 
 class Ring:
@@ -47,6 +49,15 @@ class Poly:
         return Poly(total)
 
 
+class Problem(NamedTuple):
+    """Whether a power of the goal, at most this one, is a combination of the hypotheses."""
+
+    ring: Ring
+    hyps: list
+    goal: Poly
+    power: int
+
+
 def product(ring, factors):
     result = ring.number(1)
     for factor in factors:
@@ -70,7 +81,13 @@ def symmetric(n):
     ring = Ring(" ".join(f"x{i}" for i in range(1, n + 1)))
     xs = ring.atoms()
     hyps = [total(ring, [product(ring, part) for part in combinations(xs, k)]) for k in range(1, n + 1)]
-    return hyps, power(ring, xs[0], n), 1
+    return Problem(ring, hyps, power(ring, xs[0], n), 1)
+
+
+def polynomial(ring, name, coefficients):
+    """A polynomial of one unknown, its coefficients by their exponents."""
+    x = ring.atom(name)
+    return total(ring, [ring.number(c) * power(ring, x, e) for e, c in coefficients.items()])
 
 
 def cyclic(n):
@@ -82,7 +99,39 @@ def cyclic(n):
         for k in range(1, n)
     ]
     hyps.append(product(ring, xs) - ring.number(1))
-    return hyps, xs[0], 1
+    return Problem(ring, hyps, xs[0], 1)
+
+
+def sum_of_cyclic_4():
+    """The square of the sum of every other unknown is zero."""
+    problem = cyclic(4)
+    x1, _, x3, _ = problem.ring.atoms()
+    return problem._replace(goal=x1 + x3, power=2)
+
+
+def root_of_cyclic_5():
+    problem = cyclic(5)
+    return problem._replace(goal=polynomial(problem.ring, "x1", {15: 1, 10: 122, 5: -122, 0: -1}))
+
+
+def katsura(n):
+    """Katsura's equations of n + 1 unknowns. No power of the first unknown is zero where they hold."""
+    ring = Ring(" ".join(f"x{i}" for i in range(n + 1)))
+    xs = ring.atoms()
+
+    def at(i):
+        return xs[abs(i)] if abs(i) <= n else ring.number(0)
+
+    places = range(-n, n + 1)
+    hyps = [total(ring, [at(i) for i in places]) - ring.number(1)]
+    hyps += [total(ring, [at(i) * at(m - i) for i in places]) - xs[m] for m in range(n)]
+    return Problem(ring, hyps, xs[0], 1)
+
+
+def root_of_katsura_3():
+    problem = katsura(3)
+    coefficients = {8: 128304, 7: -93312, 6: 15552, 5: 3144, 4: -1120, 3: 36, 2: 15, 1: -1}
+    return problem._replace(goal=polynomial(problem.ring, "x3", coefficients))
 
 
 def desargues():
@@ -105,13 +154,17 @@ def desargues():
     x = {name: points[name][0] for name in points}
     apart = [x["A"] - x["B"], x["A"] - x["C"], x["B"] - x["C"], x["A"], x["B"], x["C"]]
     lines = [collinear("S", "B", "C"), collinear("S", "A", "C"), collinear("S", "A", "B"), collinear("A", "B", "C")]
-    return hyps, product(ring, [collinear("P", "Q", "R")] + apart), 1
+    goal = product(ring, [collinear("P", "Q", "R")] + apart)
+    return Problem(ring, hyps, goal, 1)
 
 
 PROBLEMS = {
-    "symmetric 5": lambda: symmetric(5),
-    "symmetric 8": lambda: symmetric(8),
-    "cyclic 4": lambda: cyclic(4),
-    "cyclic 5": lambda: cyclic(5),
+    **{f"symmetric {n}": partial(symmetric, n) for n in range(3, 9)},
+    "cyclic 4": partial(cyclic, 4),
+    "cyclic 5": partial(cyclic, 5),
+    "cyclic 4, x1 + x3": sum_of_cyclic_4,
+    "cyclic 5, a polynomial of x1": root_of_cyclic_5,
+    "katsura 3": partial(katsura, 3),
+    "katsura 3, a polynomial of x3": root_of_katsura_3,
     "Desargues": desargues,
 }
