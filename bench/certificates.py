@@ -95,11 +95,11 @@ def least(times, *command):
 
 
 def answer_in(path):
-    """The answer in a file with one goal, with the numbers of lines and steps."""
+    """The answer in a file with one goal, with the numbers of lines and steps; there may be none."""
     with open(path) as file:
         answers = [line.strip().rstrip(".") for line in file if line.startswith("  ")]
     if not answers:
-        return "no answer"
+        return ""
     lines, steps = (sum(text.startswith(word) for text in answers) for word in ("line ", "step "))
     return answers[0] + (f", {lines:,} lines, {steps:,} steps" if steps else "")
 
@@ -132,12 +132,12 @@ def row(given, name, text):
     path, answered, reported = (path_of(name, ending) for ending in (".alg", ".answered.alg", ".report"))
     write(path, text(MOST_MOVES))
     finding = least(given.times, given.program, "prove", path, answered)
-    answer = answer_in(answered)
+    answer = answer_in(answered) or f"status {finding.status}"
     cells, confirmed = f"{'':21}", True
     if answer.startswith("proved"):
         cells, confirmed = checked(given, finding, answered, reported)
     if given.moves:
-        ends = not answer.startswith("gave up")
+        ends = finding.status in (0, 1) and not answer.startswith("gave up")
         cells += f" {moves(given.program, text) if ends else MOST_MOVES:9,}"
     note = "" if confirmed else ", NOT CONFIRMED"
     return f"{name:30} {finding.seconds:8.3f} {finding.peak:5.0f} {cells} {answer}{note}", confirmed
