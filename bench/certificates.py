@@ -7,7 +7,8 @@ is named. Each goal by nsatz is a file, which is kept with its answer in the fol
 the temporary folder. The table has the answer; the processor seconds of `prove` and of `check` on what
 `prove` wrote, each the least of N runs (3; fewer where they are long); what checking takes in percent of
 finding; the peak memory of both in MB; and with --moves the counted moves, the least limit with which
-the search does not give up, found by halving. The exit status is 1 where `check` does not confirm a proof.
+the search does not give up, found by halving. The exit status is 1 where a goal is not answered or a
+proof is not confirmed.
 """
 
 import argparse
@@ -95,11 +96,11 @@ def least(times, *command):
 
 
 def answer_in(path):
-    """The answer in a file with one goal, with the numbers of lines and steps."""
+    """The answer in a file with one goal, with the numbers of lines and steps; there may be none."""
     with open(path) as file:
         answers = [line.strip().rstrip(".") for line in file if line.startswith("  ")]
     if not answers:
-        return "no answer"
+        return ""
     lines, steps = (sum(text.startswith(word) for text in answers) for word in ("line ", "step "))
     return answers[0] + (f", {lines:,} lines, {steps:,} steps" if steps else "")
 
@@ -128,19 +129,20 @@ def checked(given, finding, answered, reported):
 
 
 def row(given, name, text):
-    """A row of the table, and whether there is no proof in it that is not confirmed."""
+    """A row of the table, and whether the goal is answered and its proof, if there is one, confirmed."""
     path, answered, reported = (path_of(name, ending) for ending in (".alg", ".answered.alg", ".report"))
     write(path, text(MOST_MOVES))
     finding = least(given.times, given.program, "prove", path, answered)
     answer = answer_in(answered)
-    cells, confirmed = f"{'':21}", True
+    well = bool(answer)
+    cells = f"{'':21}"
     if answer.startswith("proved"):
-        cells, confirmed = checked(given, finding, answered, reported)
+        cells, well = checked(given, finding, answered, reported)
     if given.moves:
-        ends = not answer.startswith("gave up")
-        cells += f" {moves(given.program, text) if ends else MOST_MOVES:9,}"
-    note = "" if confirmed else ", NOT CONFIRMED"
-    return f"{name:30} {finding.seconds:8.3f} {finding.peak:5.0f} {cells} {answer}{note}", confirmed
+        ends = answer and not answer.startswith("gave up")
+        cells += f" {moves(given.program, text):9,}" if ends else f" {'':9}"
+    shown = (answer if well else f"{answer}, NOT CONFIRMED") if answer else f"status {finding.status}"
+    return f"{name:30} {finding.seconds:8.3f} {finding.peak:5.0f} {cells} {shown}", well
 
 
 def main():
@@ -156,9 +158,9 @@ def main():
     well = True
     for name, text in GOALS.items():
         if given.word in name:
-            shown, confirmed = row(given, name, text)
+            shown, is_well = row(given, name, text)
             print(shown, flush=True)
-            well = well and confirmed
+            well = well and is_well
     return 0 if well else 1
 
 
