@@ -26,93 +26,244 @@ fn a_certificate_is_good_in_either_format(rt: HostRuntime) -> Result<(), Fail> {
     Ok(())
 }
 
+/// What is changed in a certificate, what stands in its place, what is written then, and how the run
+/// ends.
+struct Change {
+    old: &'static str,
+    new: &'static str,
+    output: &'static str,
+    status: Status,
+}
+
+/// Changes to the certificate.
+const CHANGES: [Change; 14] = [
+    Change {
+        old: "line 1, 1, 2 minus",
+        new: "line 1, 1, 3 minus",
+        output: "goal 1: bad at 1\n",
+        status: Status::NotAll,
+    },
+    Change {
+        old: "over 2",
+        new: "over 0",
+        output: "goal 1: bad at 1\n",
+        status: Status::NotAll,
+    },
+    Change {
+        old: "over 2",
+        new: "over 3",
+        output: "goal 1: bad at 1\n",
+        status: Status::NotAll,
+    },
+    Change {
+        old: "over 2",
+        new: "over 1",
+        output: "goal 1: bad at 4\n",
+        status: Status::NotAll,
+    },
+    Change {
+        old: "line 1, 1, 2 minus",
+        new: "line 1, 1, 4294967295 minus",
+        output: "goal 1: bad at 1\n",
+        status: Status::NotAll,
+    },
+    Change {
+        old: "line 1, 1, 2 minus",
+        new: "line 1, 1, 4294967296 minus",
+        output: "refused 18 at 154\n",
+        status: Status::Refused,
+    },
+    Change {
+        old: "line 1,",
+        new: "line 170141183460469231731687303715884105727,",
+        output: "goal 1: bad at 1\n",
+        status: Status::NotAll,
+    },
+    Change {
+        old: "line 1, 1,",
+        new: "line 1, x^1000,",
+        output: "goal 1: bad at 1\n",
+        status: Status::NotAll,
+    },
+    Change {
+        old: "line 1, 1,",
+        new: "line 1, x^1001,",
+        output: "refused 18 at 151\n",
+        status: Status::Refused,
+    },
+    Change {
+        old: "step 1 minus 1",
+        new: "step 0 minus 1",
+        output: "goal 1: bad at 2\n",
+        status: Status::NotAll,
+    },
+    Change {
+        old: "1, 3 over",
+        new: "1, 4 over",
+        output: "goal 1: bad at 3\n",
+        status: Status::NotAll,
+    },
+    Change {
+        old: "proved power 1 if",
+        new: "proved power 2 if",
+        output: "goal 1: bad\n",
+        status: Status::NotAll,
+    },
+    Change {
+        old: "proved power 1 if",
+        new: "proved power 0 if",
+        output: "goal 1: bad\n",
+        status: Status::NotAll,
+    },
+    Change {
+        old: " if 2 <> 0",
+        new: "",
+        output: "goal 1: bad\n",
+        status: Status::NotAll,
+    },
+];
+
+/// Changes to the one in the second format.
+const CHANGES_IN_FORMAT_TWO: [Change; 16] = [
+    Change {
+        old: "line 1, 2 minus",
+        new: "line 1, 3 minus",
+        output: "goal 1: bad at 1\n",
+        status: Status::NotAll,
+    },
+    Change {
+        old: "over 2",
+        new: "over 0",
+        output: "goal 1: bad at 1\n",
+        status: Status::NotAll,
+    },
+    Change {
+        old: "over 2",
+        new: "over 3",
+        output: "goal 1: bad at 1\n",
+        status: Status::NotAll,
+    },
+    Change {
+        old: " over 2",
+        new: "",
+        output: "goal 1: bad at 4\n",
+        status: Status::NotAll,
+    },
+    Change {
+        old: "line 1, 2 minus",
+        new: "line 1, 4294967295 minus",
+        output: "goal 1: bad at 1\n",
+        status: Status::NotAll,
+    },
+    Change {
+        old: "line 1, 2 minus",
+        new: "line 1, 4294967296 minus",
+        output: "refused 18 at 161\n",
+        status: Status::Refused,
+    },
+    Change {
+        old: "line 1,",
+        new: "line 170141183460469231731687303715884105727,",
+        output: "goal 1: bad at 1\n",
+        status: Status::NotAll,
+    },
+    Change {
+        old: "line 1, 2",
+        new: "line 1, x^1000, 2",
+        output: "goal 1: bad at 1\n",
+        status: Status::NotAll,
+    },
+    Change {
+        old: "line 1, 2",
+        new: "line 1, x^1001, 2",
+        output: "refused 18 at 161\n",
+        status: Status::Refused,
+    },
+    Change {
+        old: "step 1 minus 1",
+        new: "step 0 minus 1",
+        output: "goal 1: bad at 2\n",
+        status: Status::NotAll,
+    },
+    Change {
+        old: "minus -1, 3.",
+        new: "minus -1, 4.",
+        output: "goal 1: bad at 3\n",
+        status: Status::NotAll,
+    },
+    Change {
+        old: "2 power 1 if",
+        new: "2 power 2 if",
+        output: "goal 1: bad\n",
+        status: Status::NotAll,
+    },
+    Change {
+        old: "2 power 1 if",
+        new: "2 power 0 if",
+        output: "goal 1: bad\n",
+        status: Status::NotAll,
+    },
+    Change {
+        old: " if 2 <> 0",
+        new: "",
+        output: "goal 1: bad\n",
+        status: Status::NotAll,
+    },
+    Change {
+        old: "version 2",
+        new: "version 3",
+        output: "refused 18 at 130\n",
+        status: Status::Refused,
+    },
+    Change {
+        old: "version 2",
+        new: "version 1",
+        output: "refused 4 at 161\n",
+        status: Status::Refused,
+    },
+];
+
 #[test]
 fn a_change_to_a_certificate_is_found(rt: HostRuntime) -> Result<(), Fail> {
-    // Each row: what is changed, what stands in its place, what is written, and how the run ends.
-    for (old, new, wanted, ending) in [
-        (
-            "line 1, 1, 2 minus",
-            "line 1, 1, 3 minus",
-            "goal 1: bad at 1\n",
-            Status::NotAll,
-        ),
-        ("over 2", "over 0", "goal 1: bad at 1\n", Status::NotAll),
-        ("over 2", "over 3", "goal 1: bad at 1\n", Status::NotAll),
-        ("over 2", "over 1", "goal 1: bad at 4\n", Status::NotAll),
-        (
-            "line 1, 1, 2 minus",
-            "line 1, 1, 4294967295 minus",
-            "goal 1: bad at 1\n",
-            Status::NotAll,
-        ),
-        (
-            "line 1, 1, 2 minus",
-            "line 1, 1, 4294967296 minus",
-            "refused 18 at 154\n",
-            Status::Refused,
-        ),
-        (
-            "line 1,",
-            "line 170141183460469231731687303715884105727,",
-            "goal 1: bad at 1\n",
-            Status::NotAll,
-        ),
-        (
-            "line 1, 1,",
-            "line 1, x^1000,",
-            "goal 1: bad at 1\n",
-            Status::NotAll,
-        ),
-        (
-            "line 1, 1,",
-            "line 1, x^1001,",
-            "refused 18 at 151\n",
-            Status::Refused,
-        ),
-        (
-            "step 1 minus 1",
-            "step 0 minus 1",
-            "goal 1: bad at 2\n",
-            Status::NotAll,
-        ),
-        (
-            "1, 3 over",
-            "1, 4 over",
-            "goal 1: bad at 3\n",
-            Status::NotAll,
-        ),
-        (
-            "proved power 1 if",
-            "proved power 2 if",
-            "goal 1: bad\n",
-            Status::NotAll,
-        ),
-        (
-            "proved power 1 if",
-            "proved power 0 if",
-            "goal 1: bad\n",
-            Status::NotAll,
-        ),
-        (" if 2 <> 0", "", "goal 1: bad\n", Status::NotAll),
+    for (certificate, changes) in [
+        (CERTIFICATE, CHANGES.as_slice()),
+        (CERTIFICATE_IN_FORMAT_TWO, CHANGES_IN_FORMAT_TWO.as_slice()),
     ] {
-        let file = CERTIFICATE.replace(rt.alloc(), old, new)?;
-        let input = Vec::from_slice(rt.alloc(), file.as_bytes())?;
-        let (output, status) = run_of(rt.alloc(), "check", input)?;
-        assert_eq!(rt; output.as_slice(), wanted.as_bytes(), "{new}");
-        assert_eq!(rt; status, ending, "{new}");
+        for change in changes {
+            let file = certificate.replace(rt.alloc(), change.old, change.new)?;
+            let input = Vec::from_slice(rt.alloc(), file.as_bytes())?;
+            let (output, status) = run_of(rt.alloc(), "check", input)?;
+            let new = change.new;
+            assert_eq!(rt; output.as_slice(), change.output.as_bytes(), "{new}");
+            assert_eq!(rt; status, change.status, "{new}");
+        }
     }
     Ok(())
 }
 
-/// What is written for so many bytes of the certificate, and how the run ends, where they are a file.
-fn for_the_front(length: usize) -> Option<(&'static str, Status)> {
+/// Where the goal of a certificate, its answer, its line and its steps end.
+const ENDS: [usize; 5] = [112, 140, 178, 209, 241];
+
+/// The same in the second format.
+const ENDS_IN_FORMAT_TWO: [usize; 5] = [112, 150, 182, 203, 225];
+
+/// What is written for so many bytes of a certificate, and how the run ends, where they are a file. At
+/// most three blanks stand between two of its statements.
+fn for_the_front(ends: [usize; 5], length: usize) -> Option<(&'static str, Status)> {
+    let [goal, answer, line, step, last] = ends;
+    for (end, written, ending) in [
+        (goal, "goal 1: unchecked\n", Status::NotAll),
+        (answer, "goal 1: bad at 1\n", Status::NotAll),
+        (line, "goal 1: bad at 2\n", Status::NotAll),
+        (step, "goal 1: bad at 3\n", Status::NotAll),
+        (last, "goal 1: ok proved\n", Status::Done),
+    ] {
+        if end <= length && length - end <= 3 {
+            return Some((written, ending));
+        }
+    }
     match length {
         0 | 9 | 10 | 22 | 23 | 41 | 42 | 60 | 61 => Some(("", Status::Done)),
-        112..=115 => Some(("goal 1: unchecked\n", Status::NotAll)),
-        140..=143 => Some(("goal 1: bad at 1\n", Status::NotAll)),
-        178..=181 => Some(("goal 1: bad at 2\n", Status::NotAll)),
-        209..=212 => Some(("goal 1: bad at 3\n", Status::NotAll)),
-        241 | 242 => Some(("goal 1: ok proved\n", Status::Done)),
         _ => None,
     }
 }
@@ -126,18 +277,23 @@ fn is_refusal(text: &[u8]) -> bool {
 
 #[test]
 fn a_certificate_may_be_cut_anywhere(rt: HostRuntime) -> Result<(), Fail> {
-    for length in 0..=242usize {
-        let mut input = Vec::from_slice(rt.alloc(), CERTIFICATE.as_bytes())?;
-        input.truncate(length);
-        let (output, status) = run_of(rt.alloc(), "check", input)?;
-        match for_the_front(length) {
-            Some((wanted, ending)) => {
-                assert_eq!(rt; output.as_slice(), wanted.as_bytes(), "{length}");
-                assert_eq!(rt; status, ending, "{length}");
-            }
-            None => {
-                assert!(rt; is_refusal(output.as_slice()), "{length}");
-                assert_eq!(rt; status, Status::Refused, "{length}");
+    for (certificate, ends) in [
+        (CERTIFICATE, ENDS),
+        (CERTIFICATE_IN_FORMAT_TWO, ENDS_IN_FORMAT_TWO),
+    ] {
+        for length in 0..=certificate.len() {
+            let mut input = Vec::from_slice(rt.alloc(), certificate.as_bytes())?;
+            input.truncate(length);
+            let (output, status) = run_of(rt.alloc(), "check", input)?;
+            match for_the_front(ends, length) {
+                Some((wanted, ending)) => {
+                    assert_eq!(rt; output.as_slice(), wanted.as_bytes(), "{length}");
+                    assert_eq!(rt; status, ending, "{length}");
+                }
+                None => {
+                    assert!(rt; is_refusal(output.as_slice()), "{length}");
+                    assert_eq!(rt; status, Status::Refused, "{length}");
+                }
             }
         }
     }
