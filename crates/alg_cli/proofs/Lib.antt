@@ -1,4 +1,5 @@
 pub mod Answered
+pub mod CheckAccepts
 pub mod Commands
 pub mod NoneUpTo
 pub mod Numbers

@@ -110,11 +110,15 @@ pub all_reported : (all : Annotated) (number : ℕ) (reports : List GoalCheck) �
     AreFirst all number reports → AreReports all.file all.answers reports
 all_reported all number reports end so_far = record { count = so_far.count ∙ end; each = so_far.each }
 
--- the answer that is read at the place of a goal
-pub read_at : (answers items : List (Option Answer)) (i : ℕ) (answer : Option Answer) → i < length answers →
-    answer ≡ slice_index_or items i answer → items ≡ answers → answer ≡ slice_index_or answers i None
-read_at answers items i answer within is same =
-    is ∙ ap (λ xs. slice_index_or xs i answer) same ∙ get_or_default answers i answer None within
+-- the answer that is read at the place of a goal, by a reference
+pub read_at : (all : Annotated) (i : ℕ) (goals : List Goal) (items : List (Option Answer)) (answer : Option Answer)
+    (reference : Option (Bor Answer)) → AreAnswersTo all.file all.answers → goals ≡ all.file.goals → i < length goals →
+    items ≡ all.answers → answer ≡ slice_index_or items i answer → option_copied reference ≡ answer →
+    option_copied reference ≡ slice_index_or all.answers i None
+read_at all i goals items answer reference are same_goals low same is copied =
+    let within : i < length all.answers =
+    subst (λ n. i < n) (sym are.count) (subst (λ xs. i < length xs) same_goals low) in
+    copied ∙ is ∙ ap (λ xs. slice_index_or xs i answer) same ∙ get_or_default all.answers i answer None within
 
 -- what holds of a value holds of what a reference to it reads
 pub behind : {T : Type 0} (P : T → Type 0) (reference : Option (Bor T)) (value : Option T) →

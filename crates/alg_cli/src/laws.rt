@@ -1,6 +1,6 @@
 //! Laws of what is written and read. Each is a function whose contract is the law.
 
-ghost use Rattle.alg_cli.specs.OwnAnswers.{AnswersAreAccepted};
+ghost use Rattle.alg_cli.specs.OwnAnswers.{AnswersAreAccepted, CheckAccepts};
 ghost use Rattle.alg_reading_back.specs.ReadingAnswers.{Migrates, ReadsBackWithAnswers};
 ghost use Rattle.alg_reading_back.specs.ReadingBack.{ReadsBack};
 
@@ -33,4 +33,16 @@ pub fn answers_are_accepted()
     ensures { AnswersAreAccepted }
 {
     alg_nsatz::laws::proved_is_accepted();
+}
+
+/// The text of a valid file with the answers to its goals reads as the file with these answers, and
+/// the reports on them are those of `answers_are_accepted`, where no statement of the text has more
+/// than 200 parentheses open at once. Only an atom of a certificate may have more.
+pub fn check_accepts()
+    ensures { CheckAccepts }
+{
+    answers_are_accepted();
+    reads_back_with_answers();
+    alg_prover::laws::answers_are_printable();
+    alg_reify::laws::field_terms_occur();
 }

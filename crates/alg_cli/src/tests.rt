@@ -10,7 +10,9 @@ mod rows;
 mod spoilt;
 mod whole_files;
 
-use crate::laws::{migrates, reads_back, reads_back_with_answers};
+use crate::laws::{
+    answers_are_accepted, check_accepts, migrates, reads_back, reads_back_with_answers,
+};
 use crate::status::Status;
 use crate::top::run;
 use alg_outside::{MemSink, MemSource};
@@ -244,4 +246,6 @@ fn the_laws_are_called() {
     reads_back();
     reads_back_with_answers();
     migrates();
+    answers_are_accepted();
+    check_accepts();
 }

@@ -16,12 +16,12 @@ use Rattle.alg_groebner.specs.Sound.{IsThere, HasBoth, AreMembers, step_count, I
 use Rattle.alg_groebner.proofs.Found.{same_some, none_some}
 use Rattle.alg_groebner.proofs.Keeping.{goes_kept}
 
--- ---- a proof comes of a zero
+-- ---- a proof comes of a zero, and where there is none, none of all powers came to zero
 module _ (limit : ℕ) where
   Says : State → Next → Type 0
   Says st (Goes to) = Unit {0}
   Says st (Ends (End.Proved r)) = zero_power st.remainders ≡ Some r
-  Says st (Ends (End.NoneUpTo r)) = Unit {0}
+  Says st (Ends (End.NoneUpTo r)) = r ≡ length st.remainders
   Says st (Ends End.GaveUp) = Unit {0}
   Says st (Ends End.Range) = Unit {0}
   Says st (Ends End.Degree) = Unit {0}
@@ -41,7 +41,7 @@ module _ (limit : ℕ) where
 
   pairs_says : (st : State) (xs : List Pair) → Says st (by_pairs limit st xs)
   unfolding Says
-  pairs_says st [] = tt
+  pairs_says st [] = refl
   pairs_says st (x ∷ rest) = counted_says st _ _
 
   inputs_says : (st : State) → Says st (by_inputs limit st)
@@ -80,6 +80,10 @@ module _ (limit : ℕ) where
   pub zero_found : (st : State) (r : ℕ) → next limit st ≡ Ends (End.Proved r) → zero_power st.remainders ≡ Some r
   unfolding Says next
   zero_found st r e = subst (Says st) e (power_says st (zero_power st.remainders) refl)
+
+  pub none_found : (st : State) (r : ℕ) → next limit st ≡ Ends (End.NoneUpTo r) → r ≡ length st.remainders
+  unfolding Says next
+  none_found st r e = subst (Says st) e (power_says st (zero_power st.remainders) refl)
 
   -- the state where a run ends is sound, and its next step is the end
   pub runs_sound : (st last : State) (e : End) → Follows limit st last e → IsSound limit st → IsSound limit last ×

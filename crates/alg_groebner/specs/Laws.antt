@@ -11,7 +11,7 @@ use Rattle.alg_groebner.specs.Choices.{remainder_at}
 use Rattle.alg_groebner.specs.Cited.{IsCited, CiteEarlier, CiteLines}
 use Rattle.alg_groebner.specs.Pruning.{marks_of, certificate}
 use Rattle.alg_groebner.specs.Rules.{Takes, IsInOrder}
-use Rattle.alg_groebner.specs.State.{State, End, Proved, Next, Goes}
+use Rattle.alg_groebner.specs.State.{State, End, Proved, NoneUpTo, Next, Goes}
 use Rattle.alg_groebner.specs.Runs.{Runs, Comes, first_state}
 use Rattle.alg_groebner.specs.Sound.{IsSound}
 use Rattle.alg_groebner.specs.Within.{IsCertWithin, IsOver}
@@ -56,12 +56,13 @@ CertificatesAreWithin =
     length hyps < 2 ^ 31 → power ≤ 16 → limit ≤ 1000000 →
     (last : State) (r : ℕ) → Comes hyps g power limit last (Proved r) → IsCertWithin n (certificate last r)
 
--- and its power is one of those that are sought
-abbrev pub PowersAreSought : Type 0
-PowersAreSought =
-    (hyps : List Polynomial) (g : Polynomial) (power limit : ℕ) → length hyps < 2 ^ 31 → power ≤ 16 →
-    limit ≤ 1000000 → (last : State) (r : ℕ) → Comes hyps g power limit last (Proved r) →
-    (certificate last r).power ≤ power
+-- and its power is one of those that are sought; so is the greatest power that a search without such a run tells
+pub record PowersAreSought : Type 0 where
+  pub proved : (hyps : List Polynomial) (g : Polynomial) (power limit : ℕ) → length hyps < 2 ^ 31 → power ≤ 16 →
+      limit ≤ 1000000 → (last : State) (r : ℕ) → Comes hyps g power limit last (Proved r) →
+      (certificate last r).power ≤ power
+  pub none : (hyps : List Polynomial) (g : Polynomial) (power limit : ℕ) → length hyps < 2 ^ 31 → power ≤ 16 →
+      limit ≤ 1000000 → (last : State) (r : ℕ) → Comes hyps g power limit last (NoneUpTo r) → r ≤ power
 
 -- the lines of each run cite earlier lines, and the steps to each remainder cite lines
 abbrev pub RunsCite : Type 0

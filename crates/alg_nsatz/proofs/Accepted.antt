@@ -38,7 +38,7 @@ module _ (are_good : CertificatesAreGood) (are_sought : PowersAreSought) (file :
       let few : length hyps < 2 ^ 31 = omega (arith, kept, is.few_uses) in
       let most : cert.power ≤ power =
       subst (λ (c : Cert). c.power ≤ power) (sym proved.certificate)
-      (are_sought hyps goal power limit few (omega (arith, is.power_high)) (omega (arith, is.limit_high)) proved.last
+      (are_sought.proved hyps goal power limit few (omega (arith, is.power_high)) (omega (arith, is.limit_high)) proved.last
       proved.least proved.ends.1) in
       let is_good = certified are_good file e numbers cert uses power limit is proved in
       tried (power_low uses is_good, most) proved.ends.0 (Acceptance.Good, is_good, inl (proved.constants, refl))

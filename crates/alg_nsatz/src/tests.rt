@@ -1,7 +1,9 @@
 //! Products of polynomials, and tasks made by hand with what is found for them.
 
 use crate::decide::answer;
-use crate::laws::{certificates, one_nsatz_verdict, proved_is_right, proved_is_within};
+use crate::laws::{
+    certificates, one_nsatz_verdict, proved_is_accepted, proved_is_right, proved_is_within,
+};
 use crate::preparing::Task;
 use crate::product::product;
 use crate::{NsatzAnswer, Poly};
@@ -157,4 +159,5 @@ fn the_laws_are_called() {
     proved_is_within();
     certificates::<Ints>();
     proved_is_right::<Ints>();
+    proved_is_accepted();
 }

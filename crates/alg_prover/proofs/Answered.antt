@@ -62,11 +62,10 @@ all_answered file count answers all h =
     firsts (IsAnswer file) (IsPrintable file) file.goals answers
     (whole (IsAnswered file) file.goals answers count all h)
 
--- and the answers can be printed
-pub all_printable : (file : File) (count : ℕ) (answers : List Answer) → length file.goals ≤ count →
-    AreAnswered file count answers → ArePrintable file (map Some answers)
-all_printable file count answers all h =
-    let each = whole (IsAnswered file) file.goals answers count all h in
+-- answers that can be printed below their goals
+pub printable_each : (file : File) (answers : List Answer) → AllZip (IsAnswered file) file.goals answers →
+    ArePrintable file (map Some answers)
+printable_each file answers each =
     let long : length answers ≡ length file.goals = AllZip-long (IsAnswered file) file.goals answers each in
     record {
       count = length-map answers Some ∙ long;
@@ -75,3 +74,9 @@ all_printable file count answers all h =
           (sym (get_or-map Some answers i Atoms None (subst (λ n. i < n) (sym long) within)))
           (at_place (IsAnswered file) file.goals answers i no_goal Atoms within each).1;
     }
+
+-- and so can those of all goals
+pub all_printable : (file : File) (count : ℕ) (answers : List Answer) → length file.goals ≤ count →
+    AreAnswered file count answers → ArePrintable file (map Some answers)
+all_printable file count answers all h =
+    printable_each file answers (whole (IsAnswered file) file.goals answers count all h)

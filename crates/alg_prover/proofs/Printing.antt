@@ -65,41 +65,51 @@ module _ (file : File) (goal : Goal) where
   no_may : (at : Monomial) (left right : ℤ) → ((l r : ℤ) → HasForm goal.method (No at l r)) →
       uses_of goal.method ≡ [] → IsMono nat_cmp at → length (own_table file goal.equation) ≤ MAX_ATOMS →
       Each (λ k. k < length (own_table file goal.equation)) at →
-      (unsigned_abs left ≤ MAX) × (unsigned_abs right ≤ MAX) →
-      IsPrintable file goal (No at (handed left) (handed right))
-  no_may at left right form none mono small over numbers =
-      let Prints : ℤ → ℤ → Type 0 = λ l r. IsPrintable file goal (No at l r) in
-      both_handed Prints left right numbers.0 numbers.1 record {
-        form = form left right;
-        parts = (
-          record {
-            canonical = mono;
-            over =
-                subst (λ atoms. IsOverAtoms atoms at) (sym (own_atoms file goal none small))
-                (each_over (own_table file goal.equation) at over);
-          },
-          integer left numbers.0,
-          integer right numbers.1,
-        );
-      }
+      (unsigned_abs left ≤ MAX) × (unsigned_abs right ≤ MAX) → IsPrintable file goal (No at left right)
+  no_may at left right form none mono small over numbers = record {
+    form = form left right;
+    parts = (
+      record {
+        canonical = mono;
+        over =
+            subst (λ atoms. IsOverAtoms atoms at) (sym (own_atoms file goal none small))
+            (each_over (own_table file goal.equation) at over);
+      },
+      integer left numbers.0,
+      integer right numbers.1,
+    );
+  }
+
+  abbrev Prints : Monomial → ℤ → ℤ → Type 0
+  Prints at left right = IsPrintable file goal (No at left right)
 
   -- a goal by ring
-  pub no_is_printable : NoIsOverTheTable → NoIsWithinRange → (at : Monomial) (left right : ℤ) →
-      IsEquation file goal.equation → goal.method ≡ ByRing → IsMono nat_cmp at →
-      IsRingVerdict file goal.equation (RingVerdict.No at left right) →
-      IsPrintable file goal (No at (handed left) (handed right))
-  no_is_printable over within at left right is by mono verdict =
-      no_may at left right (λ l r. subst (λ method. HasForm method (No at l r)) (sym by) tt) (ap uses_of by) mono
-      verdict.0.0 (over file goal.equation at left right verdict) (within file goal.equation at left right is verdict)
+  module _ (law : NoIsOverTheTable) (range : NoIsWithinRange) (at : Monomial) (left right : ℤ)
+      (is : IsEquation file goal.equation) (by : goal.method ≡ ByRing) (mono : IsMono nat_cmp at)
+      (verdict : IsRingVerdict file goal.equation (RingVerdict.No at left right)) where
+    pub no_prints : Prints at left right
+    no_prints =
+        no_may at left right (λ l r. subst (λ method. HasForm method (No at l r)) (sym by) tt) (ap uses_of by) mono
+        verdict.0.0 (law file goal.equation at left right verdict) (range file goal.equation at left right is verdict)
+
+    pub no_is_printable : Prints at (handed left) (handed right)
+    no_is_printable =
+        let numbers = range file goal.equation at left right is verdict in
+        both_handed (Prints at) left right numbers.0 numbers.1 no_prints
 
   -- a goal by field
-  pub field_no_is_printable : FieldNoIsOverTheTable → FieldNoIsWithinRange → (at : Monomial) (left right : ℤ) →
-      goal.method ≡ ByField → IsMono nat_cmp at →
-      IsFieldVerdict file goal.equation (FieldVerdict.No at left right) →
-      IsPrintable file goal (No at (handed left) (handed right))
-  field_no_is_printable over within at left right by mono verdict =
-      no_may at left right (λ l r. subst (λ method. HasForm method (No at l r)) (sym by) tt) (ap uses_of by) mono
-      verdict.0.0 (over file goal.equation at left right verdict) (within file goal.equation at left right verdict)
+  module _ (law : FieldNoIsOverTheTable) (range : FieldNoIsWithinRange) (at : Monomial) (left right : ℤ)
+      (by : goal.method ≡ ByField) (mono : IsMono nat_cmp at)
+      (verdict : IsFieldVerdict file goal.equation (FieldVerdict.No at left right)) where
+    pub field_no_prints : Prints at left right
+    field_no_prints =
+        no_may at left right (λ l r. subst (λ method. HasForm method (No at l r)) (sym by) tt) (ap uses_of by) mono
+        verdict.0.0 (law file goal.equation at left right verdict) (range file goal.equation at left right verdict)
+
+    pub field_no_is_printable : Prints at (handed left) (handed right)
+    field_no_is_printable =
+        let numbers = range file goal.equation at left right verdict in
+        both_handed (Prints at) left right numbers.0 numbers.1 field_no_prints
 
   -- the conditions of a goal by field, and a denominator that is zero
   pub conditions_are_printable : FieldTermsMayStand → IsGoal file goal → goal.method ≡ ByField →

@@ -1,9 +1,10 @@
 -- What the answers to goals say.
-use Rattle.std.specs.Prelude.{◌≡◌, ◌<◌, ℕ, ℤ, List, [], length}
+use Rattle.std.specs.Prelude.{◌≡◌, ◌<◌, ℕ, ℤ, List, [], Some, length, map}
 use Rattle.alg_lines.specs.declared.answer.Answer.{Answer}
 use Rattle.alg_lines.specs.declared.answer.Answer.TheVariants.{Proved, Certified, No}
 use Rattle.alg_lines.specs.declared.cert.Cert.{Cert}
 use Rattle.alg_mono.specs.Mono.{Monomial}
+use Rattle.alg_printer.specs.Printable.{ArePrintable}
 use Rattle.alg_terms.specs.declared.file.File.{File}
 use Rattle.alg_terms.specs.declared.goals.Method.TheVariants.{ByRing}
 use Rattle.alg_terms.specs.declared.term.Term.{Term}
@@ -36,3 +37,9 @@ abbrev pub NoDiffers : Type 0
 NoDiffers =
     (file : File) (i : ℕ) (at : Monomial) (left right : ℤ) → (goal_at file i).method ≡ ByRing →
     IsAnswer file (goal_at file i) (No at left right) → SidesDiffer file (goal_at file i).equation at left right
+
+-- the answers to the goals of a valid file can be printed
+abbrev pub AnswersArePrintable : Type 0
+AnswersArePrintable =
+    (file : File) (answers : List Answer) → IsValid file → AreAnswers file answers →
+    ArePrintable file (map Some answers)

@@ -1,7 +1,7 @@
 //! What the answers to goals say. The functions do nothing: their contracts are the laws.
 
 ghost use Rattle.alg_prover.specs.InFree.{NoDiffersInFree};
-ghost use Rattle.alg_prover.specs.Laws.{OneAnswer, ProvedIsRight, CertifiedIsRight, NoDiffers};
+ghost use Rattle.alg_prover.specs.Laws.{AnswersArePrintable, OneAnswer, ProvedIsRight, CertifiedIsRight, NoDiffers};
 
 use alg_universe::Universe;
 
@@ -34,4 +34,19 @@ pub fn no_differs()
 {
     alg_meaning::laws::free_fits();
     alg_reify::laws::no_differs();
+}
+
+/// The answers to the goals of a valid file can be printed.
+pub fn answers_are_printable()
+    ensures { AnswersArePrintable }
+{
+    alg_reify::laws::no_is_over_the_table();
+    alg_reify::laws::no_is_within_range();
+    alg_reify::laws::no_is_a_monomial();
+    alg_reify::laws::field_no_is_over_the_table();
+    alg_reify::laws::field_no_is_within_range();
+    alg_reify::laws::field_no_is_a_monomial();
+    alg_reify::laws::field_terms_may_stand();
+    alg_nsatz::laws::proved_is_within();
+    alg_groebner::laws::powers_are_sought();
 }

@@ -4,7 +4,7 @@ ghost use Rattle.std.specs.Prelude.{◌≡◌, IfOk, pos};
 ghost use Rattle.alg_reify.specs.Tried.{tried};
 ghost use Rattle.alg_prover.specs.Examples.{by_nsatz, example, example_goal};
 
-use crate::laws::{no_differs, one_answer, proved_is_right};
+use crate::laws::{answers_are_printable, no_differs, one_answer, proved_is_right};
 use crate::{NoMemory, answers};
 use alg_lines::Answer;
 use alg_terms::{Equation, File, Goal, Kind, Method, Name, Seq, Sort, Statement, Term, VarDecl};
@@ -146,4 +146,5 @@ fn the_laws_are_called() {
     one_answer();
     proved_is_right::<Rats>();
     no_differs();
+    answers_are_printable();
 }

@@ -72,7 +72,7 @@ has_monomial P (e ∷ p) m h some =
     sum_zero x z = omega (arith, ints)
 
 -- what holds of the monomials of both sides holds of the monomial of No, which is one of either
-of_either : (P : Monomial → Type 0) (p q : Polynomial) (m : Monomial) (a b : ℤ) → Each P p → Each P q →
+pub of_either : (P : Monomial → Type 0) (p q : Polynomial) (m : Monomial) (a b : ℤ) → Each P p → Each P q →
     DifferFirst p q m a b → P m
 of_either P p q m a b left right d =
     elim (is_zero a) as (λ z. is_zero a ≡ z → P m) [

@@ -37,6 +37,7 @@ pub mod MadeDifferences
 pub mod UseTurns
 pub mod ProductTurns
 pub mod ProductRules
+pub mod NoMonomials
 pub mod NormsSome
 pub mod PreparedStops
 pub mod RingSides

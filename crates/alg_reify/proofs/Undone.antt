@@ -65,7 +65,7 @@ norm-renamed f [] = refl
 norm-renamed f (e ∷ p) =
     norm-cons (f e.0, e.1) (renamed f p) ∙ ap (λ n. unsigned_abs e.1 + n) (norm-renamed f p) ∙ sym (norm-cons e p)
 
-degree-renamed : {K L : Type 0} (f : K → L) (m : List (K × ℕ)) → degree (renamed f m) ≡ degree m
+pub degree-renamed : {K L : Type 0} (f : K → L) (m : List (K × ℕ)) → degree (renamed f m) ≡ degree m
 degree-renamed f [] = refl
 degree-renamed {K} {L} f (e ∷ m) =
     sum_by-cons (λ (x : L × ℕ). x.1) (f e.0, e.1) (renamed f m) ∙ ap (λ n. e.1 + n) (degree-renamed f m)
@@ -89,7 +89,7 @@ module _ {K L : Type 0} {ck : K → K → Ordering} {cl : L → L → Ordering}
   degree_mono_image m = degree-collect ol al (renamed f m) ∙ degree-renamed f m
 
   -- the degree of the image is at most the degree
-  degree_image : (p : PolyOver K) → poly_degree (poly_image ck cl f p) ≤ poly_degree p
+  pub degree_image : (p : PolyOver K) → poly_degree (poly_image ck cl f p) ≤ poly_degree p
   degree_image p =
       let d = poly_degree p in
       degree_within d (poly_image ck cl f p)

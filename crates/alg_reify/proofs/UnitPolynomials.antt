@@ -17,7 +17,7 @@ use Rattle.alg_meaning.specs.FractionsOver.{is_unit}
 use Rattle.alg_reify.specs.FactorMaps.{order}
 use Rattle.alg_reify.proofs.Coefficients.{only_equal}
 use Rattle.alg_reify.proofs.FactorOrder.{order_anti}
-use Rattle.alg_reify.proofs.NormsSome.{some_number}
+use Rattle.alg_reify.proofs.NormsSome.{some_number, no_terms}
 
 -- of norm 1 and degree 0
 pub record IsUnit (p : Polynomial) : Type 0 where
@@ -39,12 +39,6 @@ unit_is p h =
       | true ↦ λ e h. subst IsUnit (sym (only_equal order_anti p one e)) one_is
       | false ↦ λ e h. subst IsUnit (sym (only_equal order_anti p minus h)) minus_one_is
     ] refl h
-
-no_terms : (p : Polynomial) → T (all_some before integers.amounts p) → norm p ≡ 0 → p ≡ []
-no_terms [] h e = refl
-no_terms (e ∷ p) h is =
-    let some = some_number e.1 (first (not (is_zero e.1)) (all_some before integers.amounts p) h) in
-    absurd (omega (arith, norm-cons e p, some, is))
 
 pub no_atoms : (m : Monomial) → T (all_some nat_cmp exponents m) → degree m ≡ 0 → m ≡ []
 no_atoms [] h e = refl
@@ -69,7 +63,7 @@ small_unit (e ∷ p) h some small =
     let terms = h.polynomial.canonical.no_none in
     let here = some_number e.1 (first (not (is_zero e.1)) (all_some before integers.amounts p) terms) in
     let size = norm-cons e p in
-    let rest = no_terms p (second (not (is_zero e.1)) (all_some before integers.amounts p) terms)
+    let rest = no_terms before p (second (not (is_zero e.1)) (all_some before integers.amounts p) terms)
     (omega (arith, size, here, small)) in
     let atoms = no_atoms e.0 h.polynomial.monomials.0.no_none (omega (arith, size, here, small)) in
     let one : unsigned_abs e.1 ≡ 1 = omega (arith, size, here, small) in

@@ -12,6 +12,7 @@ use Rattle.alg_terms.specs.Nodes.{fold_term}
 use Rattle.alg_terms.specs.Occurring.{homs_in, node_homs, node_vars, vars_in}
 use Rattle.alg_mono.specs.FiniteMaps.{Each}
 use Rattle.alg_mono.specs.Mono.{Monomial}
+use Rattle.alg_mono.specs.Monomials.{IsMono}
 use Rattle.alg_mono.specs.Numbers.{integers}
 use Rattle.alg_mono.specs.Polynomials.{MAX, coefficient}
 use Rattle.alg_meaning.specs.Atoms.{atom_cmp, falling}
@@ -53,6 +54,13 @@ abbrev pub FieldNoIsWithinRange : Type 0
 FieldNoIsWithinRange =
     (file : File) (e : Equation) (m : Monomial) (a b : ℤ) → IsFieldVerdict file e (FieldVerdict.No m a b) →
     (unsigned_abs a ≤ MAX) × (unsigned_abs b ≤ MAX)
+
+-- the monomial of a verdict No is one of a polynomial: its atoms rise, no exponent is 0, and its degree is within the
+-- limit
+abbrev pub FieldNoIsAMonomial : Type 0
+FieldNoIsAMonomial =
+    (file : File) (e : Equation) (m : Monomial) (a b : ℤ) → IsFieldVerdict file e (FieldVerdict.No m a b) →
+    IsMono nat_cmp m
 
 -- the conditions of a verdict on a goal by field, and its denominator that is zero, may stand in an answer to the goal
 pub record FieldTermsMayStand : Type 0 where

@@ -1,10 +1,12 @@
 -- What holds of numbered polynomials and of the verdicts by ring.
 use Rattle.std.specs.Prelude.{◌≡◌, ◌<◌, ◌≤◌, ℕ, ℤ, List, Contains, length, unsigned_abs}
+use Rattle.std.specs.Ordering.{nat_cmp}
 use Rattle.alg_terms.specs.declared.term.Atom.{Atom}
 use Rattle.alg_terms.specs.declared.file.File.{File}
 use Rattle.alg_terms.specs.declared.goals.Equation.{Equation}
 use Rattle.alg_terms.specs.GoalRules.{IsEquation}
 use Rattle.alg_mono.specs.FiniteMaps.{Each, IsCanonical}
+use Rattle.alg_mono.specs.Monomials.{IsMono}
 use Rattle.alg_mono.specs.Numbers.{exponents, integers}
 use Rattle.alg_mono.specs.Polynomials.{IsPolynomial, MAX, coefficient}
 use Rattle.alg_mono.specs.Mono.{Monomial}
@@ -43,3 +45,10 @@ abbrev pub NoIsWithinRange : Type 0
 NoIsWithinRange =
     (file : File) (e : Equation) (m : Monomial) (a b : ℤ) → IsEquation file e →
     IsRingVerdict file e (RingVerdict.No m a b) → (unsigned_abs a ≤ MAX) × (unsigned_abs b ≤ MAX)
+
+-- the monomial of a verdict No is one of a polynomial: its atoms rise, no exponent is 0, and its degree is within the
+-- limit
+abbrev pub NoIsAMonomial : Type 0
+NoIsAMonomial =
+    (file : File) (e : Equation) (m : Monomial) (a b : ℤ) → IsRingVerdict file e (RingVerdict.No m a b) →
+    IsMono nat_cmp m

@@ -1,10 +1,10 @@
 //! What holds of numbered polynomials and fractions and of the verdicts by ring and by field. The
 //! functions do nothing: their contracts are the laws.
 
-ghost use Rattle.alg_reify.specs.FieldLaws.{OneFieldVerdict, FieldNoDiffers, FieldNoIsOverTheTable, FieldNoIsWithinRange, FieldTermsMayStand, FieldTermsOccur, SidesByNumbers};
+ghost use Rattle.alg_reify.specs.FieldLaws.{OneFieldVerdict, FieldNoDiffers, FieldNoIsOverTheTable, FieldNoIsWithinRange, FieldNoIsAMonomial, FieldTermsMayStand, FieldTermsOccur, SidesByNumbers};
 ghost use Rattle.alg_reify.specs.FractionsUnder.{FractionsUnderPaths};
 ghost use Rattle.alg_reify.specs.NumberedFractions.{NumberingKeeps};
-ghost use Rattle.alg_reify.specs.Laws.{NumberedCoefficients, OneRingVerdict, NoDiffers, NoIsOverTheTable, NoIsWithinRange};
+ghost use Rattle.alg_reify.specs.Laws.{NumberedCoefficients, OneRingVerdict, NoDiffers, NoIsOverTheTable, NoIsWithinRange, NoIsAMonomial};
 
 /// A polynomial over the atoms of a table has, after its atoms are numbered, its own coefficient at
 /// the image of each monomial over these atoms.
@@ -47,6 +47,12 @@ pub fn no_is_within_range()
     ensures { NoIsWithinRange }
 {}
 
+/// The monomial of a verdict No is one of a polynomial: its atoms rise, no exponent is 0, and its
+/// degree is at most 1,000.
+pub fn no_is_a_monomial()
+    ensures { NoIsAMonomial }
+{}
+
 /// By the numbers of an equation's table, the numerators of its sides over their common factors are
 /// made of the fractions of the sides. Making them breaks the same rules, and they are equal only
 /// where the numerators are.
@@ -74,6 +80,12 @@ pub fn field_no_is_over_the_table()
 /// The coefficients of a verdict No by field are at most 2^127 - 1 in magnitude.
 pub fn field_no_is_within_range()
     ensures { FieldNoIsWithinRange }
+{}
+
+/// The monomial of a verdict No by field is one of a polynomial: its atoms rise, no exponent is 0, and
+/// its degree is at most 1,000.
+pub fn field_no_is_a_monomial()
+    ensures { FieldNoIsAMonomial }
 {}
 
 /// The conditions of a verdict on a goal by field of a file, and its denominator that is zero, are

@@ -6,9 +6,10 @@ ghost use Rattle.alg_terms.specs.GoalRules.{IsEquation, DividesNowhere};
 ghost use Rattle.alg_reify.specs.Tried.{tried};
 
 use crate::laws::{
-    field_no_differs, field_no_is_over_the_table, field_no_is_within_range, field_terms_may_stand,
-    fractions_under_paths, no_differs, no_is_over_the_table, no_is_within_range, one_field_verdict,
-    one_ring_verdict, sides_by_numbers,
+    field_no_differs, field_no_is_a_monomial, field_no_is_over_the_table, field_no_is_within_range,
+    field_terms_may_stand, field_terms_occur, fractions_under_paths, no_differs, no_is_a_monomial,
+    no_is_over_the_table, no_is_within_range, one_field_verdict, one_ring_verdict,
+    sides_by_numbers,
 };
 use crate::{Atoms, AtomsEnd, NoMemory, Overrun, Poly, atoms_of, reify};
 use alg_terms::{Atom, Equation, File, Hyp, Name, Seq, Term, Use, VarDecl};
@@ -238,10 +239,13 @@ fn the_laws_are_called() {
     no_differs();
     no_is_over_the_table();
     no_is_within_range();
+    no_is_a_monomial();
     sides_by_numbers();
     one_field_verdict();
     field_no_differs();
     field_no_is_over_the_table();
     field_no_is_within_range();
+    field_no_is_a_monomial();
     field_terms_may_stand();
+    field_terms_occur();
 }

@@ -1,4 +1,4 @@
-use Rattle.std.proofs.Common.{◌≡◌, ◌<◌, ◌≤◌, ◌+◌, List, Option, None, length, rules, sym, subst, ◌∙◌}
+use Rattle.std.proofs.Common.{◌≡◌, ◌<◌, ◌≤◌, ◌+◌, List, Option, None, length, rules, sym, subst}
 use Rattle.std.specs.Prelude.{slice_index_or}
 use Rattle.std.specs.Option.{option_copied}
 use Rattle.alg_check.specs.Reports.{IsFew, IsReport}
@@ -13,13 +13,10 @@ check_goal-requires-clause-few c =
     let all = c.args.all.now in
     let number = c.loop-number.number in
     let within : number < length all.file.goals = search rules in
-    let there : number < length all.answers =
-    subst (λ n. number < n) (sym c.requires.answers.count) (subst (λ goals. number < length goals) c.items.ensures
-    c.loop-number-test.true) in
     let read : option_copied c.as_ref-answer.result ≡ slice_index_or all.answers number None =
-    c.as_ref-answer.ensures.value
-    ∙ read_at all.answers c.items-answers.result.now number c.index-answers-number.result there
-    c.index-answers-number.is c.items-answers.ensures in
+    read_at all number c.items.result.now c.items-answers.result.now c.index-answers-number.result c.as_ref-answer.result
+    c.requires.answers c.items.ensures c.loop-number-test.true c.items-answers.ensures c.index-answers-number.is
+    c.as_ref-answer.ensures.value in
     behind (IsFew (uses_of (goal_at all.file number).method)) c.as_ref-answer.result (slice_index_or all.answers number None)
     read (few_at all number within c.requires.answers c.requires.few)
 
@@ -30,13 +27,10 @@ loop-number-preserved c =
     let number = c.loop-number.number in
     let report = c.in_ok-report.report in
     let After : List GoalCheck → Type 0 = AreFirst all (number + 1) in
-    let there : number < length all.answers =
-    subst (λ n. number < n) (sym c.requires.answers.count) (subst (λ goals. number < length goals) c.items.ensures
-    c.loop-number-test.true) in
     let read : option_copied c.as_ref-answer.result ≡ slice_index_or all.answers number None =
-    c.as_ref-answer.ensures.value
-    ∙ read_at all.answers c.items-answers.result.now number c.index-answers-number.result there
-    c.index-answers-number.is c.items-answers.ensures in
+    read_at all number c.items.result.now c.items-answers.result.now c.index-answers-number.result c.as_ref-answer.result
+    c.requires.answers c.items.ensures c.loop-number-test.true c.items-answers.ensures c.index-answers-number.is
+    c.as_ref-answer.ensures.value in
     subst After (sym c.in_ok-push.ensures.items)
     (next_report all number c.loop-number.reports.items report c.loop-number.invariant
     (subst (λ answer. IsReport all.file (goal_at all.file number) answer report) read c.in_ok-report.ensures))
