@@ -9,6 +9,7 @@ use Rattle.std.proofs.lemmas.List.Sums.{sum_by-cons}
 use Rattle.alg_mono.specs.Monomials.{MAX_DEGREE, degree}
 use Rattle.alg_terms.specs.declared.file.File.{File}
 use Rattle.alg_terms.specs.declared.term.Atom.{Atom}
+use Rattle.alg_terms.proofs.JoinedLists.{all_left, all_right}
 use Rattle.alg_tokens.specs.declared.code.Code.{Code}
 use Rattle.alg_tokens.specs.declared.code.Code.TheVariants as code
 use Rattle.alg_reader.specs.declared.raw.RawFactor.{RawFactor}
@@ -20,7 +21,6 @@ use Rattle.alg_reader.specs.WellRead.{IsNameAt}
 use Rattle.alg_reify.specs.Numbered.{number_of}
 use Rattle.alg_reify.specs.Table.{atom_eq}
 use Rattle.alg_typing.specs.Faults.{fault_if}
-use Rattle.alg_typing.proofs.Ordering.{all_left, all_right}
 use Rattle.alg_annotated.specs.Monomials.{HasNames, exponent_of, factors_of, factor_atom, factor_fault, factor_pair, mono_faults, written_degree}
 use Rattle.alg_annotated.specs.Rules.{MAX_COUNT, count_fault}
 use Rattle.alg_annotated.proofs.Clear.{both_empty}

@@ -4,15 +4,14 @@ use Rattle.std.proofs.lemmas.Bool.{lt-ltb}
 use Rattle.std.proofs.lemmas.List.{take_more, flat_map_more}
 use Rattle.std.proofs.lemmas.List.Sums.{sum_by_more, sum_by_more_le}
 use Rattle.std.specs.Prelude.{All, nat_lt, sum_by}
+use Rattle.alg_terms.proofs.JoinedLists.{all_flat}
 use Rattle.alg_mono.specs.Monomials.{MAX_DEGREE}
 use Rattle.alg_reader.specs.declared.raw.RawFactor.{RawFactor, out-RawFactor, roll-out-RawFactor}
 use Rattle.alg_reader.specs.declared.raw.RawMono.{RawMono, out-RawMono, roll-out-RawMono}
-use Rattle.alg_reader.specs.declared.raw.RawNumber.{RawNumber}
 use Rattle.alg_reader.specs.declared.raw.Span.{Span}
-use Rattle.alg_reader.specs.RawMonos.{factor_of, mono_of, fold_mono, fold_factor, joined, names_of_factor, names_in_mono, names_in_factor}
+use Rattle.alg_reader.specs.RawMonos.{factor_of, joined, names_of_factor, names_in_mono, names_in_factor}
 use Rattle.alg_reader.proofs.Monos.{fold_plain, fold_image, fold_all}
 use Rattle.alg_reader.specs.WellRead.{IsNameAt, IsWellMono}
-use Rattle.alg_typing.proofs.Ordering.{all_flat}
 use Rattle.alg_annotated.specs.Monomials.{HasNames, exponent_of, factors_of}
 
 joined_map : {X Y : Type 0} (g : X → List Y) (xs : List X) → flat_map (λ ys. ys) (map g xs) ≡ flat_map g xs

@@ -1,5 +1,5 @@
 -- Each use, line and step takes a byte at least.
-use Rattle.std.proofs.Common.{◌≡◌, ◌≢◌, ◌≤◌, ◌+◌, ℕ, List, [], ◌∷◌, ◌++◌, length, map, Option, None, Some, refl, ap, ◌∙◌, arith}
+use Rattle.std.proofs.Common.{◌≡◌, ◌≢◌, ◌≤◌, ◌+◌, ℕ, List, [], ◌∷◌, ◌++◌, length, Option, None, Some, refl, ap, ◌∙◌, arith}
 use Rattle.std.specs.Prelude.{sum_by}
 use Rattle.std.proofs.lemmas.List.{length-map}
 use Rattle.alg_lines.specs.declared.answer.Answer.{Answer}
@@ -23,7 +23,7 @@ use Rattle.alg_typing.specs.Resolved.{extended, method_of}
 use Rattle.alg_annotated.specs.Kept.{lines_in, size_of}
 use Rattle.alg_annotated.specs.Resolved.{answer_of, answers_with, line_of, step_of, with_last, with_line, with_step, with_part}
 use Rattle.alg_annotated.specs.Rules.{last_goal}
-use Rattle.alg_annotated.proofs.Lasts.{Ending, empty, last, ending, one_longer, sum_with, with_last-append}
+use Rattle.alg_annotated.proofs.Lasts.{empty, last, ending, one_longer, sum_with, with_last-append}
 
 -- how many uses a goal has
 abbrev uses_by : Goal → ℕ

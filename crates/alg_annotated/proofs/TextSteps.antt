@@ -1,5 +1,5 @@
 -- What one more statement does to what the rest of an annotated text decides.
-use Rattle.std.proofs.Common.{◌≡◌, ◌≢◌, ◌≤◌, ◌+◌, ℕ, List, [], length, None, refl, sym, subst, ◌∙◌, le_refl, arith}
+use Rattle.std.proofs.Common.{◌≡◌, ◌≢◌, ◌≤◌, ℕ, List, [], length, None, refl, sym, subst, ◌∙◌, le_refl, arith}
 use Rattle.alg_terms.specs.Limits.{MAX_TEXT}
 use Rattle.alg_terms.specs.Valid.{IsValid}
 use Rattle.alg_reader.specs.declared.place.Place.TheVariants.{Plain}

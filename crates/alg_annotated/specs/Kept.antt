@@ -6,7 +6,6 @@ use Rattle.alg_terms.specs.declared.file.File.{File}
 use Rattle.alg_terms.specs.declared.goals.Goal.{Goal}
 use Rattle.alg_terms.specs.AnswerRules.{IsAnswerTerm}
 use Rattle.alg_terms.specs.Members.{goal_at, uses_of}
-use Rattle.alg_annotated.specs.declared.annotated.Annotated.{Annotated}
 
 -- the terms of an answer keep the rules of terms in answers to the goal
 abbrev pub HasTerms : File → Goal → Answer → Type 0

@@ -1,8 +1,8 @@
 -- The place behind a statement: it says what may stand next.
-use Rattle.std.specs.Prelude.{Bool, ◌==◌, if◌then◌else◌, Option, None, Some}
+use Rattle.std.specs.Prelude.{◌==◌, if◌then◌else◌, Option, None, Some}
 use Rattle.std.specs.Int.RustNames.{unsigned_abs}
 use Rattle.alg_reader.specs.declared.place.Place.{Place}
-use Rattle.alg_reader.specs.declared.place.Place.TheVariants.{Plain, Start, AfterGoal, Lines, Steps, LinesTwo, StepsTwo}
+use Rattle.alg_reader.specs.declared.place.Place.TheVariants.{Start, AfterGoal, Lines, Steps, LinesTwo, StepsTwo}
 use Rattle.alg_reader.specs.declared.raw.RawAnswer.{RawAnswer}
 use Rattle.alg_reader.specs.declared.raw.RawAnswer.TheVariants as answers
 use Rattle.alg_reader.specs.declared.raw.RawKind.{RawKind}

@@ -1,6 +1,6 @@
 -- The faults of a statement once all its names are resolved: those of declarations and goals, and of answers, lines
 -- and steps to the goal just before.
-use Rattle.std.specs.Prelude.{ℕ, Bool, true, false, not, ◌||◌, ◌==◌, ◌-◌, ◌^◌, nat_lt, List, [], ◌++◌, flat_map, length, Option, unwrap_or}
+use Rattle.std.specs.Prelude.{ℕ, Bool, true, false, not, ◌||◌, ◌==◌, ◌-◌, ◌^◌, nat_lt, List, [], ◌++◌, flat_map, length}
 use Rattle.std.specs.Int.RustNames.{unsigned_abs}
 use Rattle.std.specs.Option.{option_map_or}
 use Rattle.alg_terms.specs.declared.file.File.{File}

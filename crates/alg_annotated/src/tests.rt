@@ -3,6 +3,7 @@
 mod answers;
 mod certificates;
 
+use crate::laws::one_reading;
 use crate::{Annotated, FileEnd, read_annotated};
 use alg_lines::Answer;
 use alg_terms::GREATEST_TEXT;
@@ -126,4 +127,9 @@ fn declarations_and_goals_are_read_as_in_files_without_answers(rt: HostRuntime) 
         what_is_found(rt.alloc(), &[0x72, 0xFF]) == Found::Fault(1, 1),
         "no UTF-8"
     );
+}
+
+#[test]
+fn the_law_is_called() {
+    one_reading();
 }

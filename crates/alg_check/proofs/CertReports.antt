@@ -9,7 +9,7 @@ use Rattle.alg_mono.specs.NumberedPolynomials.{Polynomial}
 use Rattle.alg_lines.specs.declared.answer.GoalCheck.{GoalCheck}
 use Rattle.alg_lines.specs.declared.cert.Cert.{Cert}
 use Rattle.alg_lines.specs.Constants.{constants}
-use Rattle.alg_reify.specs.Preparing.{is_equation, prepared_goal, prepared_hyps, used_difference}
+use Rattle.alg_reify.specs.Preparing.{is_equation, prepared_hyps, used_difference}
 use Rattle.alg_reify.specs.Table.{table}
 use Rattle.alg_reify.proofs.UseTurns.{kept_length}
 use Rattle.alg_check.specs.declared.preparing.Prepared.{Prepared}

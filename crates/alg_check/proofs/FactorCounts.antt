@@ -17,7 +17,7 @@ use Rattle.alg_mono.proofs.Lcm.{exponent-mono_over}
 use Rattle.alg_mono.proofs.Monomials.{exponent-mono_times}
 use Rattle.alg_mono.proofs.Numbers.{exponent_laws}
 use Rattle.alg_meaning.specs.FractionRules.{all_factors, over_outcome, below_outcome}
-use Rattle.alg_reify.specs.FactorMaps.{FactorMap, order, exponent_of, times_map, power_map, lacks, product, map_of}
+use Rattle.alg_reify.specs.FactorMaps.{FactorMap, order, exponent_of, times_map, power_map, lacks, product}
 use Rattle.alg_reify.specs.Preparing.{times_each}
 use Rattle.alg_reify.proofs.FactorLists.{exponent-map_of, same_map, differs, norms-map_of, degrees-map_of, zero-map_of, product-map_of, over-map_of, below-map_of}
 use Rattle.alg_reify.proofs.FactorMeasures.{AreLike, both_like, same_rule}

@@ -1,6 +1,6 @@
 -- What is told of two things that are made at one node.
 use Rattle.std.specs.Prelude.{◌≡◌}
-use Rattle.std.proofs.Common.{sym, ap, subst, ◌∙◌}
+use Rattle.std.proofs.Common.{sym, ap, subst}
 use Rattle.alg_mono.specs.declared.ends.Overrun.{Overrun}
 use Rattle.alg_mono.specs.Outcomes.{Outcome}
 use Rattle.alg_mono.specs.Refusals.{Tells}

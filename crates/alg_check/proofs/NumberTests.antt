@@ -3,12 +3,10 @@ use Rattle.std.specs.Prelude.{◌≡◌, ℕ, Bool, true, false, not, [], ◌∷
 use Rattle.std.proofs.lemmas.Bool.Decides.{Decides-eqb}
 use Rattle.std.proofs.Common.{refl, sym, ap, ◌∙◌, arith, T}
 use Rattle.std.specs.Ordering.{nat_cmp}
-use Rattle.std.proofs.lemmas.List.Sums.{sum_by-cons}
 use Rattle.alg_mono.specs.FiniteMaps.{all_some}
 use Rattle.alg_mono.specs.Monomials.{degree}
 use Rattle.alg_mono.specs.NumberedPolynomials.{Polynomial, before}
-use Rattle.alg_mono.specs.Numbers.{exponents, integers, is_zero}
-use Rattle.alg_mono.specs.Outcomes.{is_nothing}
+use Rattle.alg_mono.specs.Numbers.{integers, is_zero}
 use Rattle.alg_mono.specs.Polynomials.{IsPoly, norm, poly_degree}
 use Rattle.alg_mono.proofs.Canonical.{first}
 use Rattle.alg_meaning.specs.FractionsOver.{is_unit, is_constant}

@@ -1,5 +1,5 @@
 -- A goal with an answer has one report.
-use Rattle.std.specs.Prelude.{◌≡◌, ◌≤◌, ℕ, ℤ, List, Option, Some, None}
+use Rattle.std.specs.Prelude.{◌≡◌, ℕ, ℤ, List, Some, None}
 use Rattle.std.proofs.Common.{refl, sym, ap, subst, ◌∙◌, arith, inl, inr}
 use Rattle.alg_terms.specs.declared.file.File.{File}
 use Rattle.alg_terms.specs.declared.goals.Equation.{Equation}
@@ -11,7 +11,7 @@ use Rattle.alg_mono.specs.Outcomes.{Outcome}
 use Rattle.alg_lines.specs.declared.answer.Answer.{Answer}
 use Rattle.alg_lines.specs.declared.answer.GoalCheck.{GoalCheck}
 use Rattle.alg_lines.specs.declared.cert.Cert.{Cert}
-use Rattle.alg_lines.specs.Accepting.{Acceptance, Accepting}
+use Rattle.alg_lines.specs.Accepting.{Acceptance}
 use Rattle.alg_reify.specs.declared.stop.Stop.{Stop}
 use Rattle.alg_reify.specs.Answers.{IsRingAnswer, IsFieldAnswer}
 use Rattle.alg_reify.specs.Preparing.{PreparesTo, StopsPreparing, prepared_goal, prepared_hyps}

@@ -1,27 +1,28 @@
 -- The text of a file with the answers to its goals is accepted by `check`.
-use Rattle.std.specs.Prelude.{◌≡◌, ◌<◌, ℕ, zero, suc, List, [], ◌∷◌, ◌++◌, All, Contains, IfSome, Option, Some, None, flat_map, length, map, slice_get, slice_index_or}
+use Rattle.std.specs.Prelude.{◌≡◌, ◌<◌, ℕ, zero, suc, List, [], ◌∷◌, ◌++◌, Contains, IfSome, Option, Some, None, flat_map, length, map, slice_get, slice_index_or}
 use Rattle.std.specs.List.{AllZip}
 use Rattle.std.proofs.Common.{refl, sym, ap, subst, arith}
 use Rattle.std.proofs.lemmas.List.Elements.{All-nil, All-contains, All-weaker, Contains-append_left}
 use Rattle.alg_terms.specs.declared.file.File.{File}
-use Rattle.alg_terms.specs.declared.file.Statement.{Statement}
 use Rattle.alg_terms.specs.declared.file.Statement.TheVariants as statement
 use Rattle.alg_terms.specs.declared.goals.Equation.{Equation}
 use Rattle.alg_terms.specs.declared.goals.Goal.{Goal}
 use Rattle.alg_terms.specs.declared.goals.Method.{Method}
 use Rattle.alg_terms.specs.declared.goals.Method.TheVariants.{ByRing, ByField, ByNsatz}
+use Rattle.alg_terms.specs.declared.term.Term.{Term}
 use Rattle.alg_terms.specs.Members.{goal_at, no_goal, uses_of}
 use Rattle.alg_terms.specs.Nodes.{fold_term}
-use Rattle.alg_terms.specs.Occurring.{homs_in, node_homs, node_vars, vars_in}
+use Rattle.alg_terms.specs.Occurring.{UseOnly, homs_in, node_homs, node_vars, vars_in}
 use Rattle.alg_terms.specs.Order.{AreAmong, Members, declared_by_all, used_by}
 use Rattle.alg_terms.specs.Valid.{IsValid}
 use Rattle.alg_check.specs.Reports.{IsReport}
+use Rattle.alg_lines.specs.AnswerTerms.{terms_of}
 use Rattle.alg_lines.specs.declared.answer.Answer.{Answer}
 use Rattle.alg_lines.specs.declared.answer.GoalCheck.{GoalCheck}
 use Rattle.alg_printer.specs.Text.{answer_at}
-use Rattle.alg_reading_back.specs.ReadingAnswers.{AreAnswersInOrder, AreNamedBy, ReadsBackWithAnswers, terms_of}
+use Rattle.alg_reading_back.specs.ReadingAnswers.{AreAnswersInOrder, ReadsBackWithAnswers}
 use Rattle.alg_reify.specs.Answers.{field_answer, ring_answer}
-use Rattle.alg_reify.specs.FieldLaws.{FieldTermsOccur, OccurIn}
+use Rattle.alg_reify.specs.FieldLaws.{FieldTermsOccur}
 use Rattle.alg_reify.specs.FieldVerdict.{FieldVerdict, IsFieldVerdict}
 use Rattle.alg_reify.specs.RingVerdict.{RingVerdict}
 use Rattle.alg_nsatz.specs.Verdict.{NsatzVerdict}
@@ -31,6 +32,9 @@ use Rattle.alg_cli.specs.Checked.{AreReports}
 use Rattle.alg_cli.specs.OwnAnswers.{AnswersAreAccepted, CheckAccepts, own_report, own_reports}
 
 -- ---- the terms of an answer occur in the goal
+abbrev OccurIn : Equation → List Term → Type 0
+OccurIn e = UseOnly (vars_in e) (homs_in e)
+
 module _ (law : FieldTermsOccur) (file : File) (e : Equation) where
   none : OccurIn e []
   none = record { vars = All-nil (Contains (vars_in e)); homs = All-nil (Contains (homs_in e)) }
@@ -71,7 +75,8 @@ module _ (file : File) (members : Members) (i : ℕ) (among : AreAmong (used_by 
   abbrev paths : List ℕ
   paths = flat_map (λ used. used.path) (uses_of (goal_at file i).method)
 
-  named : (answer : Answer) → OccurIn (goal_at file i).equation (terms_of answer) → AreNamedBy members (terms_of answer)
+  named : (answer : Answer) → OccurIn (goal_at file i).equation (terms_of answer) →
+      UseOnly members.vars members.homs (terms_of answer)
   named answer occur =
       let vars = vars_in (goal_at file i).equation in
       let homs = homs_in (goal_at file i).equation in

@@ -1,5 +1,5 @@
 -- The answers that are given to goals are accepted.
-use Rattle.std.specs.Prelude.{◌≡◌, ◌<◌, ℕ, ℤ, List, length}
+use Rattle.std.specs.Prelude.{ℕ, ℤ, List}
 use Rattle.std.proofs.Common.{refl, sym, subst}
 use Rattle.alg_terms.specs.declared.file.File.{File}
 use Rattle.alg_terms.specs.declared.goals.Equation.{Equation}
@@ -8,7 +8,6 @@ use Rattle.alg_terms.specs.declared.goals.Method.TheVariants.{ByRing, ByField, B
 use Rattle.alg_terms.specs.declared.goals.Use.{Use}
 use Rattle.alg_terms.specs.Members.{goal_at}
 use Rattle.alg_lines.specs.declared.answer.Answer.{Answer}
-use Rattle.alg_lines.specs.declared.answer.GoalCheck.{GoalCheck}
 use Rattle.alg_lines.specs.declared.cert.Cert.{Cert}
 use Rattle.alg_reify.specs.Answers.{field_answer, ring_answer}
 use Rattle.alg_reify.specs.FieldVerdict.{FieldVerdict, IsFieldVerdict}

@@ -6,7 +6,7 @@ use Rattle.alg_reading_back.specs.ReadingAnswers.{AnswersOpenFew}
 use Rattle.alg_terms.specs.declared.goals.Goal.{Goal}
 use Rattle.alg_terms.specs.declared.file.File.{File}
 use Rattle.alg_terms.specs.declared.goals.Method.{Method}
-use Rattle.alg_terms.specs.declared.goals.Method.TheVariants.{ByRing, ByField, ByNsatz}
+use Rattle.alg_terms.specs.declared.goals.Method.TheVariants.{ByNsatz}
 use Rattle.alg_terms.specs.Members.{goal_at}
 use Rattle.alg_terms.specs.Valid.{IsValid}
 use Rattle.alg_lines.specs.declared.answer.Answer.{Answer}

@@ -28,7 +28,7 @@ pub fn migrates()
 }
 
 /// The answers to the goals of a valid file are accepted: on a proof the report is `ok proved`, on each
-/// other answer by ring and by field `ok other`, and by nsatz `unchecked`.
+/// other answer by ring and by field `ok`, and by nsatz `unchecked`.
 pub fn answers_are_accepted()
     ensures { AnswersAreAccepted }
 {

@@ -1,8 +1,8 @@
 -- Buchberger's criterion (law 3): where the crossed differences of basis lines are below, leads of combinations
 -- are divisible.
-use Rattle.std.specs.Prelude.{◌≡◌, ◌≢◌, cond, not, List, [], ◌∷◌, ◌++◌, ℤ, pos, ◌+ℤ◌, ◌*ℤ◌}
-use Rattle.std.proofs.Common.{refl, sym, ap, subst, ◌∙◌, T, ◌⊎◌, inl, inr}
-use lib.IntN.{neg_ℤ, +ℤ_idl, +ℤ_idr, zero-*ℤ, ℤ_discrete}
+use Rattle.std.specs.Prelude.{◌≡◌, ◌≢◌, cond, not, List, [], ◌∷◌, ℤ, pos, ◌+ℤ◌, ◌*ℤ◌}
+use Rattle.std.proofs.Common.{refl, sym, ap, subst, ◌∙◌, T}
+use lib.IntN.{+ℤ_idl, +ℤ_idr, zero-*ℤ, ℤ_discrete}
 use Rattle.std.specs.declared.cmp.Ordering.{Ordering}
 use Rattle.std.specs.declared.cmp.Ordering.TheVariants.{Less, Equal, Greater}
 use Rattle.std.specs.Ordering.{is_lt, is_eq, ordering_reverse}

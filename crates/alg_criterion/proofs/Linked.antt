@@ -1,43 +1,28 @@
 -- Each step of the machine is a move that the laws know, and its end by rule 8 is theirs.
-use Rattle.std.specs.Prelude.{map, ◌≡◌, ◌≢◌, ℕ, zero, suc, ◌+◌, ◌-◌, ◌<◌, ◌≤◌, true, false, cond, nat_lt, List, [], ◌∷◌, ◌++◌, Option, Some, None, length, drop, get_or, All}
-use Rattle.std.proofs.Common.{refl, sym, ap, subst, ◌∙◌, ◌⊎◌, inl, inr, arith}
+use Rattle.std.specs.Prelude.{map, ◌≡◌, ◌≢◌, ℕ, zero, ◌≤◌, true, false, cond, nat_lt, List, [], ◌∷◌, Option, Some, None, length}
+use Rattle.std.proofs.Common.{refl, sym, ap, subst, inl, inr, arith}
 use Rattle.std.proofs.lemmas.Bool.{cases_lt}
-use Rattle.std.proofs.lemmas.List.{get_or_append_left, append_assoc, length-set, drop_all}
-use Rattle.std.proofs.lemmas.List.Elements.{All-head, All-tail}
-use Rattle.std.proofs.Math.Seq.{drop-cons}
-use Rattle.std.specs.Ordering.{nat_cmp}
-use Rattle.std.specs.BTreeSet.{insert_key}
-use Rattle.alg_mono.specs.Mono.{Monomial}
+use Rattle.std.proofs.lemmas.List.{drop_all}
 use Rattle.alg_mono.specs.NumberedPolynomials.{Polynomial}
 use Rattle.alg_mono.specs.Outcomes.{Outcome}
 use Rattle.alg_lines.specs.Lines.{line_at}
 use Rattle.alg_pairs.specs.declared.pair.Pair.{Pair}
-use Rattle.alg_groebner.specs.Cancelling.{quotient, reduced, left_lift, right_lift, s_polynomial}
-use Rattle.alg_groebner.specs.Choices.{remainder_at, reducer, first_reducible, zero_power, with_pairs}
-use Rattle.alg_groebner.specs.Leads.{reduces, coprime, lead}
+use Rattle.alg_groebner.specs.Cancelling.{reduced}
+use Rattle.alg_groebner.specs.Choices.{reducer, first_reducible, zero_power}
 use Rattle.alg_groebner.specs.Machine.{made, counted, by_pairs, by_inputs, by_reducible, by_reducer, by_line, by_current, by_power, next}
-use Rattle.alg_groebner.specs.Moves.{with_line, stepped, goal_outcome, goal_reduced, dropped, line_outcome, line_reduced, joined, next_taken, without_pair, pair_outcome, pair_taken}
+use Rattle.alg_groebner.specs.Moves.{goal_outcome, goal_reduced, line_outcome, line_reduced, next_taken, without_pair, pair_outcome, pair_taken}
 use Rattle.alg_groebner.specs.Follows.{Follows, now, later}
-use Rattle.alg_groebner.specs.Sound.{HasBoth, AreMembers, IsSound}
+use Rattle.alg_groebner.specs.Sound.{IsSound}
 use Rattle.alg_groebner.specs.State.{State, End, Next, Goes, Ends}
 use Rattle.alg_groebner.proofs.Adding.{is_less, not_less}
-use Rattle.alg_groebner.proofs.Chosen.{reducer_says, reducible_says}
 use Rattle.alg_groebner.proofs.Keeping.{goes_kept}
-use Rattle.alg_criterion.proofs.Spans.{Every, Led, whole, IsLine}
-use Rattle.alg_criterion.proofs.Machine.{Has, IsPoly, AreCoprime, Reached, steps, drops, reduces as reduces_move, joins, takes, pairs_up, IsOver}
+use Rattle.alg_criterion.proofs.Spans.{Every}
+use Rattle.alg_criterion.proofs.Machine.{IsPoly}
 use Rattle.alg_criterion.proofs.Numbered.{IsWithin, mono_times, mono_over, falling}
-use Rattle.alg_criterion.proofs.Instance.{monomials}
-use Rattle.alg_criterion.proofs.Invariant.{Inv, inv}
-use Rattle.alg_criterion.proofs.Remains.{poly_line}
-use Rattle.alg_criterion.proofs.Lists.{whole-led_of, lead-led_of}
-use Rattle.alg_criterion.proofs.Members.{has_mapped, has_from, has_in, found_in, insert_self, insert_grows, insert_split}
-use Rattle.alg_criterion.proofs.Cancelled.{reduct_at, s_at}
-use Rattle.alg_criterion.proofs.Commons.{are_coprime}
 use Rattle.alg_criterion.proofs.Fine.{IsFine, IsDone, After}
 use Rattle.alg_criterion.proofs.Moved.{i, goal_after, dropped_after, line_after, joined_after, taken_after, pair_after}
-use Rattle.alg_criterion.proofs.Seeing.{led_at, led_pair, current_of, rests, seen, line_seen}
-use Rattle.alg_criterion.proofs.Joining.{same_led, pairs_grow, pairs_meet}
-use Rattle.alg_criterion.proofs.Reducing.{reducible_in, set_steps, all_reduced}
+use Rattle.alg_criterion.proofs.Seeing.{led_pair, current_of}
+use Rattle.alg_criterion.proofs.Reducing.{all_reduced}
 
 module _ (b : ℕ) (hyps powers : List Polynomial) (hyps_ok : Every (IsPoly falling mono_times mono_over (IsWithin b))
     hyps)

@@ -1,30 +1,25 @@
 -- Each rule of the machine that goes on is a move that the laws know.
-use Rattle.std.specs.Prelude.{map, ◌≡◌, ◌≢◌, ℕ, zero, suc, ◌+◌, ◌-◌, ◌<◌, ◌≤◌, true, false, cond, nat_lt, List, [], ◌∷◌, ◌++◌, Option, Some, None, length, drop, get_or, All}
-use Rattle.std.proofs.Common.{refl, sym, ap, subst, ◌∙◌, ◌⊎◌, inl, inr, arith}
-use Rattle.std.proofs.lemmas.Bool.{cases_lt}
-use Rattle.std.proofs.lemmas.List.{get_or_append_left, append_assoc, length-set, drop_all}
+use Rattle.std.specs.Prelude.{map, ◌≡◌, ◌≢◌, ℕ, zero, suc, ◌+◌, ◌-◌, ◌<◌, true, List, [], ◌∷◌, ◌++◌, Some, None, length, drop, get_or, All}
+use Rattle.std.proofs.Common.{sym, ap, subst, ◌∙◌, ◌⊎◌, inl, inr, arith}
+use Rattle.std.proofs.lemmas.List.{get_or_append_left, append_assoc, length-set}
 use Rattle.std.proofs.lemmas.List.Elements.{All-head, All-tail}
 use Rattle.std.proofs.Math.Seq.{drop-cons}
 use Rattle.std.specs.Ordering.{nat_cmp}
 use Rattle.std.specs.BTreeSet.{insert_key}
 use Rattle.alg_mono.specs.Mono.{Monomial}
 use Rattle.alg_mono.specs.NumberedPolynomials.{Polynomial}
-use Rattle.alg_mono.specs.Outcomes.{Outcome}
 use Rattle.alg_lines.specs.Lines.{line_at}
 use Rattle.alg_pairs.specs.declared.pair.Pair.{Pair}
 use Rattle.alg_groebner.specs.Cancelling.{quotient, reduced, left_lift, right_lift, s_polynomial}
-use Rattle.alg_groebner.specs.Choices.{remainder_at, reducer, first_reducible, zero_power, with_pairs}
+use Rattle.alg_groebner.specs.Choices.{remainder_at, reducer, first_reducible, with_pairs}
 use Rattle.alg_groebner.specs.Leads.{reduces, coprime, lead}
-use Rattle.alg_groebner.specs.Machine.{made, counted, by_pairs, by_inputs, by_reducible, by_reducer, by_line, by_current, by_power, next}
-use Rattle.alg_groebner.specs.Moves.{with_line, stepped, goal_outcome, goal_reduced, dropped, line_outcome, line_reduced, joined, next_taken, without_pair, pair_outcome, pair_taken}
-use Rattle.alg_groebner.specs.Follows.{Follows, now, later}
+use Rattle.alg_groebner.specs.Machine.{made}
+use Rattle.alg_groebner.specs.Moves.{with_line, stepped, goal_reduced, dropped, line_reduced, joined, next_taken, without_pair, pair_taken}
 use Rattle.alg_groebner.specs.Sound.{HasBoth, AreMembers, IsSound}
-use Rattle.alg_groebner.specs.State.{State, End, Next, Goes, Ends}
-use Rattle.alg_groebner.proofs.Adding.{is_less, not_less}
+use Rattle.alg_groebner.specs.State.{State}
 use Rattle.alg_groebner.proofs.Chosen.{reducer_says, reducible_says}
-use Rattle.alg_groebner.proofs.Keeping.{goes_kept}
 use Rattle.alg_criterion.proofs.Spans.{Every, Led, whole, IsLine}
-use Rattle.alg_criterion.proofs.Machine.{Has, IsPoly, AreCoprime, Reached, steps, drops, reduces as reduces_move, joins, takes, pairs_up, IsOver}
+use Rattle.alg_criterion.proofs.Machine.{Has, IsPoly, AreCoprime, Reached, steps, drops, reduces as reduces_move, joins, takes, pairs_up}
 use Rattle.alg_criterion.proofs.Numbered.{IsWithin, mono_times, mono_over, falling}
 use Rattle.alg_criterion.proofs.Instance.{monomials}
 use Rattle.alg_criterion.proofs.Invariant.{Inv, inv}
@@ -36,7 +31,7 @@ use Rattle.alg_criterion.proofs.Commons.{are_coprime}
 use Rattle.alg_criterion.proofs.Fine.{IsFine}
 use Rattle.alg_criterion.proofs.Seeing.{led_at, led_pair, current_of, rests, seen, line_seen}
 use Rattle.alg_criterion.proofs.Joining.{same_led, pairs_grow, pairs_meet}
-use Rattle.alg_criterion.proofs.Reducing.{reducible_in, set_steps, all_reduced}
+use Rattle.alg_criterion.proofs.Reducing.{reducible_in, set_steps}
 
 abbrev IsP : ℕ → Polynomial → Type 0
 IsP b p = IsPoly falling mono_times mono_over (IsWithin b) p

@@ -1,9 +1,8 @@
 -- Products of basis lines with one lead: one of them, and products below it.
 use Rattle.std.specs.Prelude.{◌≡◌, ◌≢◌, not, List, [], ◌∷◌, ◌++◌, ℤ, pos, ◌+ℤ◌, ◌*ℤ◌}
-use Rattle.std.proofs.Common.{sym, ap, subst, ◌∙◌, T, ◌⊎◌, inl, inr}
+use Rattle.std.proofs.Common.{sym, ap, subst, ◌∙◌, T, inl, inr}
 use lib.IntN.{neg_ℤ, zero-*ℤ}
 use Rattle.std.specs.declared.cmp.Ordering.{Ordering}
-use Rattle.std.specs.declared.cmp.Ordering.TheVariants.{Less}
 use Rattle.alg_mono.specs.FiniteMaps.{amount, row, all_some}
 use Rattle.alg_mono.specs.Numbers.{integers, is_zero}
 use Rattle.alg_mono.proofs.Canonical.{first}

@@ -1,11 +1,11 @@
 -- Whole numbers as a ring.
 use Rattle.std.specs.Prelude.{◌≡◌, ◌≢◌, ℤ, pos, ◌+ℤ◌, ◌*ℤ◌, true, false, not, T}
 use Rattle.std.proofs.Common.{refl, sym, ap, ◌∙◌}
-use lib.IntN.{neg_ℤ, +ℤ_assoc, +ℤ_comm, +ℤ_idl, +ℤ_idr, +ℤ_invr, ℤ_discrete, zero-*ℤ}
+use lib.IntN.{neg_ℤ, +ℤ_assoc, +ℤ_comm, +ℤ_idr, +ℤ_invr, ℤ_discrete, zero-*ℤ}
 use Rattle.alg_mono.specs.Numbers.{is_zero}
 use Rattle.alg_mono.proofs.Domain.{product_some}
 use Rattle.alg_mono.proofs.Integers.{neg_ℤ-*ℤ, +ℤ-*ℤ}
-use Rattle.alg_mono.proofs.Numbers.{*ℤ_comm, *ℤ_assoc, *ℤ_dist, one-*ℤ, is_zero_only}
+use Rattle.alg_mono.proofs.Numbers.{*ℤ_comm, *ℤ_assoc, *ℤ_dist, is_zero_only}
 
 pub mul_left : (a b c : ℤ) → a *ℤ (b *ℤ c) ≡ b *ℤ (a *ℤ c)
 mul_left a b c = sym (*ℤ_assoc a b c) ∙ ap (λ x. x *ℤ c) (*ℤ_comm a b) ∙ *ℤ_assoc b a c

@@ -1,5 +1,6 @@
 //! Searches that are sure that there is no certificate.
 
+use crate::laws::{leads_divide, lines_are_combinations, none_exists, pairs_are_below};
 use crate::{Overrun, Poly, Verdict, search_sure};
 use alg_mono::Mono;
 use std::alloc::Global;
@@ -64,4 +65,12 @@ fn none_without_a_move(rt: HostRuntime) -> Result<(), Fail> {
         assert_eq!(rt; none_up_to(&answer), Some(row.power), "{}", row.shows);
     }
     Ok(())
+}
+
+#[test]
+fn the_laws_are_called() {
+    lines_are_combinations();
+    pairs_are_below();
+    leads_divide();
+    none_exists();
 }

@@ -1,15 +1,10 @@
 -- Where a search in a list of factors comes to.
-use Rattle.std.specs.Prelude.{◌≡◌, ◌≢◌, ℕ, zero, suc, ◌+◌, ◌<◌, true, false, cond, [], ◌∷◌, length, drop}
-use Rattle.std.proofs.Common.{get_or, refl, sym, ap, subst, ◌∙◌, T, arith}
-use Rattle.std.specs.Ordering.{is_eq, eq_by_cmp}
-use Rattle.std.specs.Cmp.{tied_itself}
-use Rattle.alg_mono.specs.FiniteMaps.{IsCanonical}
-use Rattle.alg_mono.specs.Numbers.{exponents}
+use Rattle.std.specs.Prelude.{◌≡◌, ◌≢◌, ℕ, zero, suc, ◌+◌, ◌<◌, true, cond, [], ◌∷◌, length, drop}
+use Rattle.std.proofs.Common.{get_or, sym, ap, subst, ◌∙◌, arith}
+use Rattle.std.specs.Ordering.{eq_by_cmp}
 use Rattle.alg_mono.specs.NumberedPolynomials.{Polynomial}
-use Rattle.alg_mono.proofs.Numbers.{exponent_laws}
-use Rattle.alg_mono.proofs.Canonical.{same_canonical, amount-collect, IsCanonical-collect, equal}
 use Rattle.alg_mono.proofs.MergeTurns.{drop_at}
-use Rattle.alg_reify.specs.FactorMaps.{FactorMap, order, exponent_of, map_of}
+use Rattle.alg_reify.specs.FactorMaps.{FactorMap, order, exponent_of}
 use Rattle.alg_field.specs.Lists.{IsList, IsFactor}
 use Rattle.alg_reify.proofs.FactorLists.{itself, differs}
 

@@ -1,27 +1,22 @@
 -- Maps of factors by their lists: their products, and which rules they break.
-use Rattle.std.specs.Prelude.{◌≡◌, ℕ, ◌+◌, ◌*◌, ◌^◌, ◌≤◌, ◌||◌, cond, [], ◌∷◌, ◌++◌}
+use Rattle.std.specs.Prelude.{◌≡◌, ℕ, ◌+◌, ◌*◌, ◌^◌, ◌≤◌, [], ◌∷◌, ◌++◌}
 use Rattle.std.proofs.Common.{sym, ap, ◌∙◌, arith, append-nil}
-use Rattle.std.proofs.lemmas.List.Sums.{sum_by-cons}
-use Rattle.std.specs.Cmp.{nat_cmp_total}
-use Rattle.std.specs.FinMap.{nat_cmp-IsAntisymmetric}
 use Rattle.alg_mono.specs.FiniteMaps.{Each, IsCanonical, collect}
 use Rattle.alg_mono.proofs.Canonical.{collect-canonical}
 use Rattle.alg_mono.specs.Monomials.{scaled}
 use Rattle.alg_mono.specs.NumberedPolynomials.{Polynomial}
 use Rattle.alg_mono.specs.Numbers.{exponents}
-use Rattle.alg_mono.specs.Outcomes.{Outcome, outcome, is_nothing}
-use Rattle.alg_mono.specs.Polynomials.{norm, poly_degree}
+use Rattle.alg_mono.specs.Outcomes.{Outcome, outcome}
 use Rattle.alg_mono.proofs.Numbers.{exponent_laws}
 use Rattle.alg_mono.proofs.Each.{Each-append, Each-collect}
 use Rattle.alg_mono.proofs.Lcm.{Each-scaled}
 use Rattle.alg_mono.proofs.Outcomes.{says_at}
-use Rattle.alg_meaning.specs.FractionRules.{all_factors, over_outcome, below_outcome}
-use Rattle.alg_reify.proofs.FactorProducts.{product-collect}
+use Rattle.alg_meaning.specs.FractionRules.{below_outcome}
 use Rattle.alg_reify.proofs.RenamedMaps.{exponent-scaled}
-use Rattle.alg_reify.specs.FactorMaps.{FactorMap, order, exponent_of, times_map, power_map, product, map_of, norms, degrees}
+use Rattle.alg_reify.specs.FactorMaps.{FactorMap, order, exponent_of, times_map, power_map, map_of, norms, degrees}
 use Rattle.alg_field.specs.Lists.{IsFactor, IsList, MAX_POWER}
 use Rattle.alg_field.proofs.Measures.{each_factor, each_some, norms-append, degrees-append, norms-scaled, degrees-scaled, below_is}
-use Rattle.alg_reify.proofs.FactorLists.{norms-map_of, degrees-map_of, zero-map_of}
+use Rattle.alg_reify.proofs.FactorLists.{norms-map_of, degrees-map_of}
 use Rattle.alg_reify.proofs.FactorOrder.{order_total, order_anti}
 use Rattle.alg_field.proofs.Within.{exponent_within}
 

@@ -8,16 +8,13 @@ use Rattle.alg_mono.specs.FiniteMaps.{Each, total}
 use Rattle.alg_mono.specs.Outcomes.{Outcome, outcome, has_zero, norm_product, is_nothing}
 use Rattle.alg_mono.specs.Polynomials.{PolyOver, norm, poly_degree}
 use Rattle.alg_mono.proofs.MergeTurns.{drop_at}
-use Rattle.alg_mono.proofs.Numbers.{exponent_laws, natural_sum}
-use Rattle.alg_mono.proofs.Totals.{IsSum, total-collect}
+use Rattle.alg_mono.proofs.Numbers.{natural_sum}
 use Rattle.alg_mono.specs.Monomials.{scaled}
-use Rattle.alg_mono.specs.NumberedPolynomials.{Polynomial}
 use Rattle.alg_meaning.specs.FactorsOver.{FactorsOver}
 use Rattle.alg_meaning.specs.FractionRules.{all_factors, over_outcome, below_outcome}
-use Rattle.alg_reify.proofs.FactorMeasures.{many, many_adds, measure, measure-all, norm_sum, either_sum, norm_measure, zero_measure, degree_measure}
-use Rattle.alg_reify.specs.FactorMaps.{FactorMap, map_of, norms, degrees}
+use Rattle.alg_reify.proofs.FactorMeasures.{many, measure-all, norm_sum, either_sum, norm_measure, zero_measure, degree_measure}
+use Rattle.alg_reify.specs.FactorMaps.{FactorMap, norms, degrees}
 use Rattle.alg_field.specs.Lists.{IsFactor, IsList}
-use Rattle.alg_reify.proofs.FactorOrder.{order_anti}
 
 pub product_some : (a b : ℕ) → 0 < a → 0 < b → 0 < a * b
 product_some a b h g =

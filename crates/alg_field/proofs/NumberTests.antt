@@ -1,18 +1,13 @@
 -- Polynomials that are numbers, and the tests on them.
-use Rattle.std.specs.Prelude.{◌≡◌, zero, suc, ◌<◌, Bool, true, false, cond, not, ℤ, pos, negsuc, [], ◌∷◌, Option, Some, None}
-use Rattle.std.proofs.Common.{refl, sym, ap, ◌∙◌, T, arith}
+use Rattle.std.specs.Prelude.{◌≡◌, Bool, true, false, cond, ℤ, pos, [], ◌∷◌, Option, Some, None}
+use Rattle.std.proofs.Common.{refl, sym, ap, ◌∙◌}
 use Rattle.std.proofs.lemmas.Bool.Decides.{Decides-int_eq}
-use Rattle.std.specs.Int.RustNames.{unsigned_abs}
 use Rattle.std.specs.Option.{option_eq}
-use Rattle.std.specs.Ordering.{nat_cmp, int_eq, eq_by_cmp}
-use Rattle.alg_mono.specs.FiniteMaps.{all_some}
-use Rattle.alg_mono.specs.Numbers.{integers, is_zero}
+use Rattle.std.specs.Ordering.{int_eq, eq_by_cmp}
+use Rattle.alg_mono.specs.Numbers.{is_zero}
 use Rattle.alg_mono.specs.Outcomes.{is_nothing}
-use Rattle.alg_mono.specs.Polynomials.{IsPoly, norm}
-use Rattle.alg_mono.proofs.Canonical.{first}
-use Rattle.alg_mono.proofs.Norms.{norm-cons}
 use Rattle.alg_mono.specs.Mono.{Monomial}
-use Rattle.alg_mono.specs.NumberedPolynomials.{Polynomial, before, term_of}
+use Rattle.alg_mono.specs.NumberedPolynomials.{Polynomial, term_of}
 use Rattle.alg_mono.proofs.Numbers.{is_zero_only}
 use Rattle.alg_horner.specs.Form.{Form, IsCanonical}
 use Rattle.alg_horner.specs.Maps.{map_of}

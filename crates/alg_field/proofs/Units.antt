@@ -1,26 +1,18 @@
 -- The polynomials 1 and -1 as factors.
-use Rattle.std.specs.Prelude.{◌≡◌, ℕ, ◌+◌, ◌*◌, ◌<◌, ◌≤◌, true, false, ◌||◌, List, [], ◌∷◌, ◌++◌, pos, negsuc, not, ◌==◌, nat_lt, ℤ}
-use Rattle.std.proofs.Common.{refl, sym, ap, subst, ◌∙◌, arith, append-nil, T}
+use Rattle.std.specs.Prelude.{◌≡◌, ◌+◌, ◌*◌, ◌<◌, true, false, ◌||◌, List, [], ◌∷◌, ◌++◌, nat_lt}
+use Rattle.std.proofs.Common.{refl, sym, ap, ◌∙◌, append-nil}
 use Rattle.std.proofs.lemmas.Bool.{ltb-true, ltb-false}
-use Rattle.std.specs.Int.RustNames.{unsigned_abs}
 use Rattle.std.proofs.lemmas.List.Sums.{sum_by-cons}
-use Rattle.std.specs.Ordering.{nat_cmp, eq_by_cmp}
-use Rattle.alg_mono.specs.FiniteMaps.{all_some}
-use Rattle.alg_mono.specs.Mono.{Monomial}
+use Rattle.std.specs.Ordering.{nat_cmp}
 use Rattle.alg_mono.specs.Monomials.{degree}
-use Rattle.alg_mono.specs.NumberedPolynomials.{Polynomial, before}
-use Rattle.alg_mono.specs.Numbers.{exponents, integers, is_zero}
-use Rattle.alg_mono.proofs.Canonical.{first, second}
-use Rattle.alg_mono.proofs.Norms.{norm-cons}
+use Rattle.alg_mono.specs.NumberedPolynomials.{Polynomial}
 use Rattle.alg_mono.specs.Outcomes.{is_nothing, product_outcome}
 use Rattle.alg_mono.specs.Polynomials.{IsPoly, norm, poly_degree}
 use Rattle.alg_meaning.specs.FractionRules.{all_factors, over_outcome}
 use Rattle.alg_meaning.specs.FractionsOver.{is_unit}
-use Rattle.alg_reify.proofs.Coefficients.{only_equal}
 use Rattle.alg_reify.proofs.FactorMeasures.{AreLike, both_like, same_rule}
-use Rattle.alg_reify.specs.FactorMaps.{FactorMap, order}
+use Rattle.alg_reify.specs.FactorMaps.{FactorMap}
 use Rattle.alg_field.specs.Lists.{IsFactor}
-use Rattle.alg_reify.proofs.FactorOrder.{order_anti}
 use Rattle.alg_reify.proofs.NormsSome.{norm_some}
 use Rattle.alg_reify.proofs.UnitPolynomials.{unit_is, small_unit}
 

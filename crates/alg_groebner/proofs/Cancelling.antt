@@ -1,5 +1,5 @@
 -- What the code combines and divides is what the definitions say.
-use Rattle.std.specs.Prelude.{◌≡◌, ◌≢◌, ℕ, ◌<◌, List, [], ◌∷◌, ℤ, pos, negsuc, ◌≤ℤ◌, All}
+use Rattle.std.specs.Prelude.{◌≡◌, ◌≢◌, [], ◌∷◌, ℤ, pos, negsuc, ◌≤ℤ◌}
 use Rattle.std.proofs.Common.{refl, sym, ap, subst, ◌∙◌, T, arith}
 use Rattle.std.specs.Int.RustNames.{unsigned_abs}
 use Rattle.std.specs.Ordering.{nat_cmp}
@@ -10,7 +10,6 @@ use Rattle.alg_mono.specs.Numbers.{is_zero}
 use Rattle.alg_mono.specs.Outcomes.{combine_outcome}
 use Rattle.alg_mono.specs.Polynomials.{IsPoly}
 use Rattle.alg_mono.proofs.Canonical.{first}
-use Rattle.alg_mono.proofs.Numbers.{one-*ℤ}
 use Rattle.alg_poly.specs.Divisors.{IsContent, IsDivisible, times_number}
 use Rattle.alg_mono.specs.Mono.{Monomial}
 use Rattle.alg_mono.specs.NumberedPolynomials.{Polynomial}
@@ -41,10 +40,6 @@ content_number (e ∷ p) d h low some none =
     let lead : e.1 ≢ pos 0 = λ z. subst (λ (c : ℤ). T (Rattle.std.specs.Prelude.not (is_zero c))) z
     (first (Rattle.std.specs.Prelude.not (is_zero e.1)) _ h.polynomial.canonical.no_none) in
     (magnitude d low ∙ ap pos (content_is e p (unsigned_abs d) lead is), (low, is.divides))
-
-pub one_time : (p : Polynomial) → times_number (pos 1) p ≡ p
-one_time [] = refl
-one_time (e ∷ p) = λ i. (e.0, one-*ℤ e.1 i) ∷ one_time p i
 
 module _ (m : Monomial) (p : Polynomial) (n : Monomial) (q : Polynomial) (u v a b : ℤ)
     (first_lead : u ≡ leading p) (second_lead : v ≡ leading q) (left : a ≡ left_factor u v)

@@ -6,7 +6,6 @@ use Rattle.std.proofs.lemmas.List.{length-set}
 use Rattle.alg_mono.specs.NumberedPolynomials.{Polynomial}
 use Rattle.alg_mono.specs.Outcomes.{is_nothing}
 use Rattle.alg_groebner.specs.declared.remainder.Remainder.{Remainder}
-use Rattle.alg_groebner.specs.Follows.{Follows}
 use Rattle.alg_groebner.specs.Laws.{PowersAreSought}
 use Rattle.alg_groebner.specs.Moves.{with_line}
 use Rattle.alg_groebner.specs.Pruning.{certificate, certificate_from}

@@ -1,9 +1,7 @@
 -- Each step of the code's rules is one of the machine.
-use Rattle.std.specs.Prelude.{◌≡◌, ◌≢◌, ℕ, ◌+◌, ◌<◌, ◌≤◌, Bool, true, false, cond, nat_lt, List, [], ◌∷◌, ◌++◌, Option, Some, None, option_map, All, IfSome}
+use Rattle.std.specs.Prelude.{◌≡◌, ℕ, ◌+◌, ◌<◌, true, false, cond, nat_lt, List, [], ◌∷◌, ◌++◌, Option, Some, None, option_map, All, IfSome}
 use Rattle.std.proofs.Common.{refl, sym, ap, subst, arith}
 use Rattle.std.proofs.lemmas.List.Elements.{All-head, All-tail}
-use Rattle.std.specs.Ordering.{nat_cmp}
-use Rattle.std.specs.BTreeSet.{insert_key}
 use Rattle.std.proofs.lemmas.Map.Views.{All-insert_key}
 use Rattle.alg_mono.specs.NumberedPolynomials.{Polynomial}
 use Rattle.alg_mono.specs.Outcomes.{Outcome}
@@ -15,7 +13,7 @@ use Rattle.alg_groebner.specs.Machine.{counted, by_pairs, by_inputs, by_reducibl
 use Rattle.alg_groebner.specs.Moves.{stepped, with_line, goal_reduced, line_reduced, joined, next_taken}
 use Rattle.alg_groebner.specs.Sound.{AreMembers, IsSound}
 use Rattle.alg_groebner.specs.State.{State, Goes}
-use Rattle.alg_groebner.specs.Work.{Work, member_reducer, member_reducible, member_cmp, with_members, with_made, with_step, work_goal_reduced, work_line_reduced, work_joined, work_taken}
+use Rattle.alg_groebner.specs.Work.{Work, member_reducer, member_reducible, member_cmp, with_step, work_goal_reduced, work_line_reduced, work_taken}
 use Rattle.alg_groebner.specs.Working.{work_by_pairs, work_by_inputs, work_by_reducible, work_by_reducer, work_by_line, work_by_current, work_by_power, work_next}
 use Rattle.alg_groebner.specs.declared.member.Member.{Member}
 use Rattle.alg_groebner.specs.declared.remainder.Remainder.{Remainder}

@@ -3,7 +3,7 @@
 ghost use Rattle.std.specs.Prelude.{◌≡◌, ◌≢◌, ◌≤ℤ◌, pos, [], true, IfOk, IfErr};
 ghost use Rattle.alg_mono.specs.Outcomes.{Outcome};
 ghost use Rattle.alg_mono.specs.Refusals.{Tells};
-ghost use Rattle.alg_poly.specs.Divisors.{IsDivisible, times_number};
+ghost use Rattle.alg_poly.specs.Divisors.{IsDivisible};
 ghost use Rattle.alg_groebner.specs.Divisors.{content};
 ghost use Rattle.alg_groebner.specs.Leads.{reduces};
 ghost use Rattle.alg_groebner.specs.Cancelling.{cancelled, cancel_outcome, quotient, reduced, reduce_outcome, left_lift, right_lift, s_polynomial, s_outcome};
@@ -34,17 +34,6 @@ fn content_of(p: &Poly) -> i128
     p.content()
 }
 
-/// The polynomial that `d` times is `p`. Where `d` is 1, it is `p` itself.
-fn quotient_by(alloc: Global, p: Poly, d: i128) -> Result<Poly, NoMemory>
-    requires { IsDivisible d p }
-    ensures { IfOk result (λ r. times_number d r ≡ p) }
-{
-    if d <= 1 {
-        return Ok(p);
-    }
-    p.over_int(alloc, d)
-}
-
 /// Takes the leads of `m*p` and `n*q` away, and divides by the content.
 pub(crate) fn cancel(
     alloc: Global,
@@ -65,7 +54,7 @@ pub(crate) fn cancel(
     let b = factors::right(u, v);
     let sum = combine(alloc, a, m, p, b, n, q)?;
     let d = content_of(&sum);
-    let poly = quotient_by(alloc, sum, d)?;
+    let poly = sum.over_int(alloc, d)?;
     Ok(Cancelled { a, b, d, poly })
 }
 

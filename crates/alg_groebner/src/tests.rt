@@ -1,5 +1,9 @@
 //! Searches with known ends and known certificates.
 
+use crate::laws::{
+    certificates_are_good, certificates_are_within, marks_are_cited, one_end, one_step,
+    powers_are_sought, some_end,
+};
 use crate::{Mono, Overrun, Poly, Verdict, search};
 use alg_lines::{GoalStep, Line};
 use std::alloc::Global;
@@ -282,4 +286,15 @@ fn twice_is_divided(rt: HostRuntime) -> Result<(), Fail> {
         other => assert!(rt; false, "{other:?}"),
     }
     Ok(())
+}
+
+#[test]
+fn the_laws_are_called() {
+    one_step();
+    one_end();
+    some_end();
+    certificates_are_good();
+    certificates_are_within();
+    powers_are_sought();
+    marks_are_cited();
 }

@@ -1,6 +1,5 @@
 -- The constants of a certificate: the numbers by which it divides.
 use Rattle.std.specs.Prelude.{Bool, cond, ℤ, List, [], ◌∷◌, ◌++◌, map}
-use Rattle.std.specs.declared.cmp.Ordering.TheVariants.{Less}
 use Rattle.std.specs.Ordering.{int_cmp, is_lt}
 use Rattle.std.specs.Prelude.{pos}
 use Rattle.std.specs.BTreeSet.{insert_key}

@@ -1,3 +1,4 @@
 pub mod Lines
+pub mod AnswerTerms
 pub mod Accepting
 pub mod Constants

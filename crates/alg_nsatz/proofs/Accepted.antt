@@ -1,6 +1,6 @@
 -- A goal whose verdict by nsatz is Proved is reported proved.
-use Rattle.std.specs.Prelude.{◌≡◌, ◌<◌, ◌≤◌, ◌^◌, ℕ, ℤ, List, length, Some}
-use Rattle.std.proofs.Common.{refl, sym, subst, ap, arith, inl}
+use Rattle.std.specs.Prelude.{◌<◌, ◌≤◌, ◌^◌, ℕ, ℤ, List, length}
+use Rattle.std.proofs.Common.{refl, sym, subst, arith, inl}
 use Rattle.alg_terms.specs.declared.file.File.{File}
 use Rattle.alg_terms.specs.declared.goals.Equation.{Equation}
 use Rattle.alg_terms.specs.declared.goals.Method.{Method}
@@ -8,7 +8,7 @@ use Rattle.alg_terms.specs.declared.goals.Method.TheVariants.{ByRing, ByField, B
 use Rattle.alg_terms.specs.declared.goals.Use.{Use}
 use Rattle.alg_terms.specs.GoalRules.{IsGoal, IsNsatz, MayBeBy}
 use Rattle.alg_terms.specs.Members.{goal_at, no_goal}
-use Rattle.alg_lines.specs.Accepting.{Acceptance, HasPower, good, bad_power, Accepting}
+use Rattle.alg_lines.specs.Accepting.{Acceptance, good, Accepting}
 use Rattle.alg_lines.specs.declared.answer.Answer.TheVariants.{Certified}
 use Rattle.alg_lines.specs.declared.answer.GoalCheck.TheVariants.{OkProved}
 use Rattle.alg_lines.specs.declared.cert.Cert.{Cert}
@@ -16,7 +16,7 @@ use Rattle.alg_reify.specs.Preparing.{is_equation, prepared_goal, prepared_hyps,
 use Rattle.alg_reify.specs.Table.{table}
 use Rattle.alg_reify.proofs.UseTurns.{kept_length}
 use Rattle.alg_groebner.specs.Laws.{CertificatesAreGood, PowersAreSought}
-use Rattle.alg_check.specs.Reports.{IsReportBy, HasGoalPower, tried}
+use Rattle.alg_check.specs.Reports.{IsReportBy, tried}
 use Rattle.alg_nsatz.specs.Laws.{ProvedIsAccepted}
 use Rattle.alg_nsatz.specs.Verdict.{NsatzVerdict, IsVerdictBy, IsVerdictOf}
 use Rattle.alg_nsatz.proofs.Right.{certified}

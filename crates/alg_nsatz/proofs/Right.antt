@@ -13,7 +13,6 @@ use Rattle.alg_terms.specs.declared.goals.Use.{Use}
 use Rattle.alg_terms.specs.declared.term.Atom.{Atom}
 use Rattle.alg_terms.specs.GoalRules.{IsGoal, IsNsatz, MayBeBy}
 use Rattle.alg_terms.specs.Members.{goal_at, hyp_at, no_goal, sort_at}
-use Rattle.alg_terms.specs.Valid.{IsValid}
 use Rattle.alg_universe.specs.declared.universe.Universe.{Ghosts}
 use Rattle.alg_universe.specs.Right.{ConstantHolds}
 use Rattle.alg_mono.specs.FiniteMaps.{renamed}

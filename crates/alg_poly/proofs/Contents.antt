@@ -53,15 +53,19 @@ content_more p i x g h k e c d =
     } in
     subst (λ q. IsContent q h) (sym more) content
 
+one_divides : (n : ℕ) → 1 ∣ n
+one_divides n = dvd_of_mod-eq-zero 1 (omega arith)
+
+-- 1 divides each coefficient
+pub one_divides_each : (p : Polynomial) → DividesEach 1 p
+one_divides_each p = λ k d l. one_divides (unsigned_abs (get_or p k d).1)
+
 -- where the first terms have the content 1, so have all
 pub content_one : (p : Polynomial) (i : ℕ) → IsContent (take i p) 1 → IsContent p 1
 content_one p i c = record {
-  divides = λ k d l. one_divides (unsigned_abs (get_or p k d).1);
+  divides = one_divides_each p;
   greatest = λ d h. c.greatest d (All-take (λ (e : Term). d ∣ unsigned_abs e.1) i p h);
 }
-  where
-    one_divides : (n : ℕ) → 1 ∣ n
-    one_divides n = dvd_of_mod-eq-zero 1 (omega arith)
 
 some_magnitude : (c : ℤ) → T (not (is_zero c)) → 0 < unsigned_abs c
 some_magnitude (pos n) h = let e : n ≡ 0 → ⊥ = λ p. subst (λ b. T (not b)) (ap (λ m. m == 0) p) h in omega arith

@@ -11,6 +11,7 @@ use Rattle.alg_mono.specs.Polynomials.{IsPolynomial}
 use Rattle.alg_mono.specs.Mono.{Monomial}
 use Rattle.alg_mono.specs.NumberedPolynomials.{Polynomial, before, term_of, row_of, product_of, multiple_of}
 use Rattle.alg_mono.proofs.Monomials.{one_mono_times}
+use Rattle.alg_mono.proofs.Numbers.{one-*ℤ}
 use Rattle.alg_mono.proofs.Rows.{product_of_term, some_number}
 use Rattle.alg_poly.specs.Divisors.{times_number}
 
@@ -48,6 +49,11 @@ row_is_times : (c : ℤ) (p : Polynomial) → Each (λ m. IsCanonical nat_cmp ex
 row_is_times c [] h = refl
 row_is_times c (e ∷ p) h =
     λ i. (one_mono_times nat_cmp_total nat_cmp-IsAntisymmetric e.0 h.0 i, c *ℤ e.1) ∷ row_is_times c p h.1 i
+
+-- one time a polynomial is the polynomial
+pub one_time : (p : Polynomial) → times_number (pos 1) p ≡ p
+one_time [] = refl
+one_time (e ∷ p) = λ i. (e.0, one-*ℤ e.1 i) ∷ one_time p i
 
 -- a number times a polynomial, coefficient by coefficient
 pub multiple_is_times : (c : ℤ) (p : Polynomial) → c ≢ pos 0 → IsPolynomial nat_cmp integers p →

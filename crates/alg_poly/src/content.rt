@@ -75,19 +75,26 @@ impl Poly {
         content_of(&self.terms) as i128
     }
 
-    /// Whether `d` is at least 1 and divides each coefficient, by one division for each term. It
-    /// takes no memory.
+    /// Whether `d` is at least 1 and divides each coefficient, by one division for each term where it
+    /// is not 1. It takes no memory.
     pub fn divisible_by(&self, d: i128) -> bool
         ensures { IsTrue result ↔ IsDivisible d self.now }
     {
+        if d == 1 {
+            return true;
+        }
         d >= 1 && divides_each(&self.terms, d.unsigned_abs())
     }
 
-    /// The polynomial that `d` times is `self`, by one division for each term.
-    pub fn over_int(&self, alloc: Global, d: i128) -> Result<Poly, NoMemory>
-        requires { IsDivisible d self.now }
-        ensures { IfOk result (λ p. times_number d p ≡ self.now) }
+    /// The polynomial that `d` times is `self`: itself where `d` is 1, and else by one division for
+    /// each term.
+    pub fn over_int(self, alloc: Global, d: i128) -> Result<Poly, NoMemory>
+        requires { IsDivisible d self }
+        ensures { IfOk result (λ p. times_number d p ≡ self) }
     {
+        if d <= 1 {
+            return Ok(self);
+        }
         let terms = quotients(alloc, &self.terms, d)?;
         Ok(Poly { terms })
     }

@@ -98,6 +98,9 @@ fn divides_by_numbers(rt: HostRuntime) -> Result<(), Fail> {
     ] {
         assert_eq!(rt; poly.divisible_by(d), divides, "by {d}");
     }
+    let once = poly.copy(alloc)?;
+    assert!(rt; once.divisible_by(1));
+    assert!(rt; once.over_int(alloc, 1)?.same(&poly), "over 1");
     assert!(rt; poly.divisible_by(6));
     let quotient = poly.over_int(alloc, 6)?;
     assert!(rt;

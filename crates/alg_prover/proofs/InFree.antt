@@ -1,5 +1,5 @@
 -- Sides that are different polynomials have different values among the polynomials.
-use Rattle.std.proofs.Common.{◌≡◌, ◌≢◌, sym, subst, ◌∙◌}
+use Rattle.std.proofs.Common.{◌≢◌, sym, subst, ◌∙◌}
 use Rattle.std.specs.Prelude.{◌↔◌}
 use Rattle.alg_meaning.specs.FreeValues.{atoms_of}
 use Rattle.alg_meaning.specs.PolynomialOf.{poly_of}

@@ -1,5 +1,5 @@
 -- The answers to the goals of a valid file can be printed.
-use Rattle.std.specs.Prelude.{◌≡◌, ◌<◌, ◌≤◌, ◌^◌, ℕ, ℤ, List, [], ◌∷◌, length, map, Some, All}
+use Rattle.std.specs.Prelude.{◌≡◌, ◌<◌, ◌^◌, ℕ, List, [], ◌∷◌, length, All}
 use Rattle.std.specs.List.{AllZip}
 use Rattle.std.proofs.Common.{refl, sym, subst, arith}
 use Rattle.std.proofs.lemmas.List.Elements.{All-nil, All-head, All-tail}
@@ -9,12 +9,11 @@ use Rattle.alg_terms.specs.declared.goals.Method.{Method}
 use Rattle.alg_terms.specs.declared.goals.Method.TheVariants.{ByRing, ByField, ByNsatz}
 use Rattle.alg_terms.specs.declared.goals.Use.{Use}
 use Rattle.alg_terms.specs.GoalRules.{IsGoal, IsHyp, IsNsatz, MayBeBy}
-use Rattle.alg_terms.specs.Valid.{IsValid}
 use Rattle.alg_lines.specs.declared.answer.Answer.{Answer}
 use Rattle.alg_groebner.specs.Laws.{PowersAreSought}
 use Rattle.alg_nsatz.specs.Laws.{ProvedIsWithin}
-use Rattle.alg_nsatz.specs.Verdict.{NsatzVerdict, IsNsatzVerdict, IsVerdictBy, IsVerdictOf}
-use Rattle.alg_printer.specs.Printable.{ArePrintable, HasForm, HasParts, IsPrintable}
+use Rattle.alg_nsatz.specs.Verdict.{NsatzVerdict, IsVerdictBy, IsVerdictOf}
+use Rattle.alg_printer.specs.Printable.{HasForm, HasParts, IsPrintable}
 use Rattle.alg_reify.specs.Answers.{field_answer, ring_answer}
 use Rattle.alg_reify.specs.FieldLaws.{FieldNoIsAMonomial, FieldNoIsOverTheTable, FieldNoIsWithinRange, FieldTermsMayStand}
 use Rattle.alg_reify.specs.FieldVerdict.{FieldVerdict, IsFieldVerdict}
@@ -23,7 +22,7 @@ use Rattle.alg_reify.specs.Preparing.{IsByNsatz, is_equation, prepared_goal, pre
 use Rattle.alg_reify.specs.RingVerdict.{RingVerdict, IsRingVerdict}
 use Rattle.alg_reify.specs.Table.{table}
 use Rattle.alg_reify.proofs.UseTurns.{kept_length}
-use Rattle.alg_prover.specs.Answers.{AreAnswers, IsAnswer, IsAnswerBy, nsatz_answer_of}
+use Rattle.alg_prover.specs.Answers.{IsAnswer, IsAnswerBy, nsatz_answer_of}
 use Rattle.alg_prover.specs.Laws.{AnswersArePrintable}
 use Rattle.alg_prover.proofs.Answered.{IsAnswered, printable_each}
 use Rattle.alg_prover.proofs.Certificates.{certified_is_printable, gave_up_is_printable, none_is_printable}

@@ -10,7 +10,7 @@ use Rattle.alg_reader.specs.declared.place.Place.{Place}
 use Rattle.alg_reader.specs.declared.place.Place.TheVariants as places
 use Rattle.alg_reader.specs.Kinds.{variant}
 use Rattle.alg_reader.specs.Forms as rules
-use Rattle.alg_reader.specs.Forms.{Form, a, seq, alt, opt, many, rule}
+use Rattle.alg_reader.specs.Forms.{Form, seq, alt, many, rule}
 use Rattle.alg_reader.specs.Grammar.{body, cofactor, constants, divisor, number, option, said_at, sign, step_or, unit, word, zero}
 use Rattle.alg_reader.specs.Ahead.{begins, goes_on, is_word, rule_begins, rule_goes_on}
 use Rattle.alg_reader.proofs.Ahead.{Disjoint}

@@ -9,7 +9,7 @@ use Rattle.alg_reader.specs.declared.raw.RawKind.TheVariants as raws
 use Rattle.alg_terms.specs.declared.declarations.Kind.TheVariants as sorts
 use Rattle.alg_reader.specs.Kinds.{variant, code}
 use Rattle.alg_reader.specs.Forms as rules
-use Rattle.alg_reader.specs.Forms.{Rule, Form, a, seq, alt, opt, many, rule, Tree, token, pair, left, right, none, some, end, more, node, spelled}
+use Rattle.alg_reader.specs.Forms.{alt}
 use Rattle.alg_reader.specs.Grammar.{grammar, name, sign, word}
 use Rattle.alg_reader.specs.TermMeaning.{Value}
 use Rattle.alg_reader.specs.RawNodes.{span_of}

@@ -1,26 +1,16 @@
 -- One token ahead decides in each rule of the grammar.
-use Rattle.std.proofs.Common.{◌≡◌, false, refl, arith}
-use Rattle.alg_tokens.specs.declared.token.TokenKind.{TokenKind}
+use Rattle.std.proofs.Common.{refl, arith}
 use Rattle.alg_tokens.specs.declared.token.TokenKind.TheVariants as kinds
 use Rattle.alg_tokens.specs.declared.token.Sign.TheVariants as signs
 use Rattle.alg_tokens.specs.declared.token.Word.TheVariants as words
-use Rattle.alg_reader.specs.declared.format.Format.{Format}
-use Rattle.alg_reader.specs.declared.format.Format.TheVariants as formats
-use Rattle.alg_reader.specs.declared.place.Place.{Place}
-use Rattle.alg_reader.specs.declared.place.Place.TheVariants as places
 use Rattle.alg_reader.specs.Forms as rules
-use Rattle.alg_reader.specs.Forms.{Rule, Form, a, seq, alt, opt, many, rule}
-use Rattle.alg_reader.specs.Grammar.{grammar, zero, number, word, sign, option, using, inside, separated, body, step_or, line_or, said_at, constants, cofactor, divisor}
-use Rattle.alg_reader.specs.Ahead.{nullable, begins, goes_on}
-use Rattle.alg_reader.proofs.Ahead.{Disjoint}
+use Rattle.alg_reader.specs.Forms.{Rule, seq, alt, opt, many, rule}
+use Rattle.alg_reader.specs.Grammar.{grammar, zero, number, word, sign, separated, constants, cofactor, divisor}
 use Rattle.alg_reader.proofs.Powers.{unary_apart, power_apart}
-use Rattle.alg_reader.proofs.Leaves.{close_apart, number_apart, name_apart}
-use Rattle.alg_reader.proofs.OneToken.{zero_apart, unit_apart}
+use Rattle.alg_reader.proofs.Leaves.{number_apart, name_apart}
 use Rattle.alg_reader.proofs.Turns.{sum_apart, product_apart, sum_turn_apart, product_turn_apart}
 use Rattle.alg_reader.proofs.Choices.{relation_apart, sum_then_relation, sum_then_equal, sum_then_by, nsatz_apart, using_apart, power_apart as limit_apart, names_then_colon}
-use Rattle.alg_reader.proofs.Options.{use_then_close, use_then_comma, comma_apart, all_uses}
-use Rattle.alg_reader.proofs.Bodies.{ring_apart, sort_apart, hom_apart, vars_apart, hyp_apart}
-use Rattle.alg_reader.proofs.AnswerChoices.{atom_then_close, atom_then_exponent, factor_then_star, star_apart, mono_apart, int_apart, int_ends, number_ends, sum_then_unequal, condition_ends, condition_again, constant_ends, constant_again, version_then_power, conditional_apart, mono_then_colon, mono_then_comma, factors_then_comma, cofactor_then_number, cofactor_then_combined, proved_apart, no_apart, zero_denominator_apart, none_up_to_apart, gave_up_apart, stopped_apart, line_apart, step_apart, said_then_dot}
+use Rattle.alg_reader.proofs.AnswerChoices.{atom_then_close, atom_then_exponent, factor_then_star, star_apart, mono_apart, int_apart, int_ends, number_ends, sum_then_unequal, condition_ends, condition_again, version_then_power, conditional_apart, mono_then_colon, cofactor_then_number, cofactor_then_combined, said_then_dot}
 use Rattle.alg_reader.proofs.GoodParts.{IsGood, good_token, good_number, good_option, good_using, good_sum_inside, good_use_inside, good_said, good_constants, good_cofactor, good_divisor}
 
 pub good_grammar : (r : Rule) → IsGood (grammar r)

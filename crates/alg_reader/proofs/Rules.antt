@@ -9,7 +9,7 @@ use Rattle.alg_terms.specs.Kinds.{IsDomain}
 use Rattle.alg_reader.specs.declared.raw.RawTerm.{RawTerm}
 use Rattle.alg_reader.specs.Kinds.{variant, code}
 use Rattle.alg_reader.specs.Forms as rules
-use Rattle.alg_reader.specs.Forms.{a, seq, alt, opt, rule}
+use Rattle.alg_reader.specs.Forms.{seq, alt, opt, rule}
 use Rattle.alg_reader.specs.Grammar.{name, number, sign, inside, word}
 use Rattle.alg_reader.specs.TermMeaning.{Value, named, leaf_one, leaf_two, act_unary, act_power, act_leaf}
 use Rattle.alg_reader.specs.RawNodes.{literal, variable, image, opposite, power_of, is_unequal}

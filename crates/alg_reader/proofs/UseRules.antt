@@ -9,7 +9,7 @@ use Rattle.alg_tokens.specs.declared.token.Word.TheVariants as words
 use Rattle.alg_reader.specs.declared.raw.RawUse.{RawUse}
 use Rattle.alg_reader.specs.declared.raw.RawMethod.{RawMethod}
 use Rattle.alg_reader.specs.Forms as rules
-use Rattle.alg_reader.specs.Forms.{a, seq, opt, rule}
+use Rattle.alg_reader.specs.Forms.{seq, opt, rule}
 use Rattle.alg_reader.specs.Grammar.{name, sign, inside, option, using, options}
 use Rattle.alg_reader.specs.TermMeaning.{Value}
 use Rattle.alg_reader.specs.RawNodes.{span_of}

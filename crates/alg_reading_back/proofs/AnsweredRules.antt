@@ -4,6 +4,7 @@ use Rattle.std.specs.List.{AllByRecursion}
 use Rattle.std.proofs.lemmas.List.Elements.{recursion_from_All}
 use Rattle.alg_lines.specs.declared.answer.Answer.{Answer}
 use Rattle.alg_lines.specs.declared.answer.Answer.TheVariants as answer
+use Rattle.alg_lines.specs.AnswerTerms.{terms_of}
 use Rattle.alg_terms.specs.AnswerRules.{IsAnswerTerm}
 use Rattle.alg_terms.specs.declared.file.File.{File}
 use Rattle.alg_terms.specs.declared.file.Statement.{Statement}
@@ -14,7 +15,6 @@ use Rattle.alg_typing.specs.SortFaults.{sort_faults}
 use Rattle.alg_annotated.specs.Names.{statement_names}
 use Rattle.alg_annotated.specs.Rules.{statement_faults}
 use Rattle.alg_printer.specs.Printable.{HasParts}
-use Rattle.alg_reading_back.specs.ReadingAnswers.{terms_of}
 use Rattle.alg_reading_back.proofs.WrittenStatements.{written_statement}
 
 -- ---- faults of declarations and goals

@@ -7,6 +7,7 @@ use Rattle.std.proofs.lemmas.Bool.Decides.{nat_tests}
 use Rattle.std.proofs.lemmas.List.Elements.{All-nil}
 use Rattle.alg_lines.specs.declared.answer.Answer.{Answer}
 use Rattle.alg_lines.specs.declared.answer.Answer.TheVariants as answer
+use Rattle.alg_lines.specs.AnswerTerms.{terms_of}
 use Rattle.alg_mono.specs.Mono.{Monomial}
 use Rattle.alg_reify.specs.Table.{goal_atoms}
 use Rattle.alg_terms.specs.AnswerRules.{IsAnswerTerm, MayDivide}
@@ -47,7 +48,6 @@ use Rattle.alg_annotated.specs.Resolved.{answer_of}
 use Rattle.alg_annotated.specs.Rules.{MAX_COUNT, answer_faults, belongs, count_fault, part_faults, version_fault}
 use Rattle.alg_printer.specs.Printable.{HasForm, HasParts, IsCount}
 use Rattle.alg_printer.proofs.Leaves.{AreAtoms}
-use Rattle.alg_reading_back.specs.ReadingAnswers.{terms_of}
 use Rattle.alg_reading_back.proofs.AtomNumbers.{goal_once}
 use Rattle.alg_reading_back.proofs.Closed.{IsClosed}
 use Rattle.alg_reading_back.proofs.DividesBack.{fields_divide}

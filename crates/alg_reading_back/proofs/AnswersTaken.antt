@@ -7,6 +7,7 @@ use Rattle.alg_lines.specs.declared.answer.Answer.{Answer}
 use Rattle.alg_lines.specs.declared.answer.Answer.TheVariants as answer
 use Rattle.alg_lines.specs.declared.cert.GoalStep.{GoalStep}
 use Rattle.alg_lines.specs.declared.cert.Line.{Line}
+use Rattle.alg_lines.specs.AnswerTerms.{terms_of}
 use Rattle.alg_reify.specs.Table.{goal_atoms}
 use Rattle.alg_terms.specs.declared.file.File.{File}
 use Rattle.alg_terms.specs.declared.goals.Goal.{Goal}
@@ -27,7 +28,6 @@ use Rattle.alg_annotated.specs.Rules.{last_goal, answer_faults}
 use Rattle.alg_annotated.proofs.Lasts.{with_last-append}
 use Rattle.alg_printer.specs.Printable.{IsLineOver, IsPrintable, IsStepOver}
 use Rattle.alg_printer.proofs.Leaves.{AreAtoms}
-use Rattle.alg_reading_back.specs.ReadingAnswers.{terms_of}
 use Rattle.alg_reading_back.proofs.AnswersBack.{IsTermThere, opened, answer_back, answer_faultless}
 use Rattle.alg_reading_back.proofs.Closed.{IsClosed}
 use Rattle.alg_reading_back.proofs.DerivedAnswers.{answer_derived}

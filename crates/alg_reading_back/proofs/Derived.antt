@@ -7,7 +7,7 @@ use Rattle.alg_tokens.specs.declared.token.TokenKind.TheVariants as kinds
 use Rattle.alg_reader.specs.declared.raw.RawTerm.{RawTerm}
 use Rattle.alg_reader.specs.Kinds.{variant, code}
 use Rattle.alg_reader.specs.Forms as rules
-use Rattle.alg_reader.specs.Forms.{Rule, Form, a, seq, alt, many, rule, Tree, token, pair, left, right, none, end, more, node, spelled}
+use Rattle.alg_reader.specs.Forms.{Rule, Form, seq, alt, many, rule, Tree, token, pair, left, right, none, end, more, node, spelled}
 use Rattle.alg_reader.specs.Grammar.{grammar, Fits, sign}
 use Rattle.alg_reader.specs.TermMeaning.{Value, one, two, nothing, term, chain, act_sum, act_unary, act_power}
 use Rattle.alg_reader.specs.RawNodes.{binary, opposite}

@@ -5,6 +5,7 @@ use Rattle.std.specs.List.{AllByRecursion}
 use Rattle.std.specs.Option.{IfSome}
 use Rattle.std.proofs.lemmas.List.Elements.{All-weaker}
 use Rattle.alg_lines.specs.declared.answer.Answer.{Answer}
+use Rattle.alg_lines.specs.AnswerTerms.{terms_of}
 use Rattle.alg_terms.specs.AnswerRules.{IsAnswerTerm}
 use Rattle.alg_terms.specs.declared.file.File.{File}
 use Rattle.alg_terms.specs.declared.file.Statement.{Statement}
@@ -13,20 +14,20 @@ use Rattle.alg_terms.specs.declared.goals.Goal.{Goal}
 use Rattle.alg_terms.specs.declared.term.Term.{Term}
 use Rattle.alg_terms.specs.Members.{goal_at, no_goal}
 use Rattle.alg_terms.specs.Nodes.{fold_term}
-use Rattle.alg_terms.specs.Occurring.{node_vars, node_homs}
+use Rattle.alg_terms.specs.Occurring.{UseOnly, node_vars, node_homs}
 use Rattle.alg_terms.specs.Order.{declared_by, declared_by_all}
+use Rattle.alg_terms.proofs.JoinedLists.{all_left, all_right}
 use Rattle.alg_tokens.specs.Laws.{width, tokens_of}
 use Rattle.alg_reader.specs.declared.format.Format.{Format}
 use Rattle.alg_reader.specs.declared.place.Place.{Place}
 use Rattle.alg_reader.specs.declared.place.Place.TheVariants as places
 use Rattle.alg_reader.specs.declared.raw.RawKind.{RawKind}
-use Rattle.alg_typing.proofs.Ordering.{all_left, all_right}
 use Rattle.alg_annotated.specs.Places.{place_behind}
 use Rattle.alg_annotated.specs.Reading.{SoFar, with_statement, annotated_way}
 use Rattle.alg_annotated.specs.Resolved.{answers_with}
 use Rattle.alg_printer.specs.Printable.{IsPrintable}
 use Rattle.alg_printer.specs.Text.{answer_at, IsStatementOf}
-use Rattle.alg_reading_back.specs.ReadingAnswers.{AreNamedBy, CanBePrinted, terms_of}
+use Rattle.alg_reading_back.specs.ReadingAnswers.{CanBePrinted}
 use Rattle.alg_reading_back.proofs.AnswersBack.{IsTermThere}
 use Rattle.alg_reading_back.proofs.AnswersTaken.{answer_taken}
 use Rattle.alg_reading_back.proofs.PartsTaken.{clear_fault}
@@ -175,7 +176,7 @@ module _ (file : File) (answers : List (Option Answer)) (can : CanBePrinted file
         )
 
     said_there : (said : Option Answer) → IfSome said (IsPrintable file goal) →
-        IfSome said (λ said. AreNamedBy (declared_by_all before) (terms_of said)) →
+        IfSome said (λ said. UseOnly (declared_by_all before).vars (declared_by_all before).homs (terms_of said)) →
         IfSome said (λ said. AllByRecursion (IsTermThere file g text (front_distinct file can.valid further)
         (grows file further) next_is goal sort_there) (terms_of said))
     said_there None printable named = tt

@@ -15,6 +15,7 @@ use Rattle.alg_terms.specs.Members.{goal_at, no_goal, uses_of}
 use Rattle.alg_terms.specs.Occurring.{homs_in}
 use Rattle.alg_terms.specs.Order.{declared_by, declared_by_all}
 use Rattle.alg_terms.specs.Valid.{IsValid}
+use Rattle.alg_terms.proofs.JoinedLists.{all_left, all_right}
 use Rattle.alg_tokens.specs.declared.token.Word.TheVariants as words
 use Rattle.alg_tokens.specs.Laws.{width}
 use Rattle.alg_reader.specs.declared.raw.RawEquation.{RawEquation}
@@ -23,7 +24,6 @@ use Rattle.alg_typing.specs.AnswerTerms.{may_divide}
 use Rattle.alg_typing.specs.NameFaults.{equation_names, method_names}
 use Rattle.alg_typing.specs.Resolved.{equation_of, method_of}
 use Rattle.alg_typing.specs.SortFaults.{equation_sorts, method_sorts, may_divide_by, sort_of_sides}
-use Rattle.alg_typing.proofs.Ordering.{all_left, all_right}
 use Rattle.alg_reading_back.proofs.Closed.{IsClosed}
 use Rattle.alg_reading_back.proofs.ClosedFronts.{sort_low}
 use Rattle.alg_typing.proofs.SortLaws.{plain_divides}

@@ -11,9 +11,9 @@ use Rattle.alg_terms.specs.Occurring.{node_vars, node_homs}
 use Rattle.alg_terms.specs.Sorts.{own_sort}
 use Rattle.alg_terms.specs.TermRules.{IsTerm, IsInRange}
 use Rattle.alg_terms.proofs.Views.{Leaf, Unary, Binary, leaf, unary, binary, induction, nodes_binary, range_binary, vars_binary, homs_binary}
+use Rattle.alg_terms.proofs.JoinedLists.{all_left, all_right}
 use Rattle.alg_typing.proofs.Growing.{Grows, source_same}
 use Rattle.alg_typing.proofs.GrowingTerms.{own_same, parts_kept, arguments_kept}
-use Rattle.alg_typing.proofs.Ordering.{all_left, all_right}
 use Rattle.alg_typing.proofs.SortedTerms.{KeepsRules}
 
 module _ (g : File) where

@@ -11,7 +11,7 @@ use Rattle.alg_terms.specs.Occurring.{node_vars, node_homs, vars_in, homs_in}
 use Rattle.alg_terms.specs.Order.{numbers_from, declared_by, declared_by_all}
 use Rattle.alg_terms.specs.TermRules.{IsInRange}
 use Rattle.alg_terms.specs.Valid.{IsValid}
-use Rattle.alg_typing.proofs.Ordering.{all_left, all_right}
+use Rattle.alg_terms.proofs.JoinedLists.{all_left, all_right}
 use Rattle.alg_reading_back.proofs.Fronts.{front, sorts_in, vars_in as vars_before, homs_in as homs_before, hyps_in, next}
 use Rattle.alg_reading_back.proofs.Shrinking.{in_range}
 use Rattle.alg_reading_back.proofs.Steps.{among_low, rises, length_of_take}

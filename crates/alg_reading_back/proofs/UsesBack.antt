@@ -11,6 +11,7 @@ use Rattle.alg_terms.specs.Kinds.{IsField}
 use Rattle.alg_terms.specs.Members.{kind_of, source_of, target_of, hyp_at, no_hyp}
 use Rattle.alg_terms.specs.Sorts.{Leads}
 use Rattle.alg_terms.specs.Valid.{names_of}
+use Rattle.alg_terms.proofs.JoinedLists.{all_left, all_right}
 use Rattle.alg_tokens.specs.declared.token.Sign.TheVariants as signs
 use Rattle.alg_tokens.specs.declared.token.TokenKind.TheVariants as kinds
 use Rattle.alg_tokens.specs.declared.token.Refusal.{Refusal}
@@ -24,7 +25,6 @@ use Rattle.alg_typing.specs.SortFaults.{sort_along, path_sorts, is_bad_unequal, 
 use Rattle.alg_typing.specs.TermSorts.{is_field}
 use Rattle.alg_typing.proofs.FreshNames.{AreDistinct}
 use Rattle.alg_typing.proofs.Growing.{Grows, kind_same, source_same, target_same}
-use Rattle.alg_typing.proofs.Ordering.{all_left, all_right}
 use Rattle.alg_printer.specs.Names.{hom_name}
 use Rattle.alg_reading_back.proofs.Closed.{IsClosed}
 use Rattle.alg_reading_back.proofs.WrittenMethods.{hyp_name, path_pieces, path_raw, use_pieces, use_raw}

@@ -9,6 +9,7 @@ use Rattle.alg_terms.specs.declared.file.Statement.TheVariants as statement
 use Rattle.alg_terms.specs.Members.{var_at, sort_of_var, no_var}
 use Rattle.alg_terms.specs.Order.{declared_by, declared_by_all, numbers_from, IsOneSorted}
 use Rattle.alg_terms.specs.Valid.{IsValid, names_of}
+use Rattle.alg_terms.proofs.JoinedLists.{all_right}
 use Rattle.alg_tokens.specs.declared.token.Sign.TheVariants as signs
 use Rattle.alg_tokens.specs.declared.token.TokenKind.TheVariants as kinds
 use Rattle.alg_tokens.specs.declared.token.Word.TheVariants as words
@@ -20,7 +21,6 @@ use Rattle.alg_typing.specs.Names.{is_sort}
 use Rattle.alg_typing.specs.Resolved.{number_at, vars_of}
 use Rattle.alg_typing.proofs.DeclaredNames.{at_place, name_at}
 use Rattle.alg_typing.proofs.FreshNames.{Name, IsNew, AreDistinct}
-use Rattle.alg_typing.proofs.Ordering.{all_right}
 use Rattle.alg_printer.specs.Names.{sort_name, var_name}
 use Rattle.alg_reading_back.proofs.Fresh.{fresh_var}
 use Rattle.alg_reading_back.proofs.Fronts.{front, vars_in, next, grows}

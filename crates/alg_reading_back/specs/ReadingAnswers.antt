@@ -1,9 +1,9 @@
 -- The laws that the canonical text of a file with answers reads back as the file with its answers, and that its text in
 -- format 1 does so too.
-use Rattle.std.specs.Prelude.{◌≡◌, ◌≤◌, ℕ, List, [], ◌∷◌, ◌++◌, flat_map, All, Contains, Option, IfSome, Ok}
+use Rattle.std.specs.Prelude.{◌≡◌, ◌≤◌, ℕ, List, ◌∷◌, ◌++◌, All, Option, IfSome, Ok}
 use Rattle.alg_annotated.specs.Reading.{IsAnnotatedReadingOf}
 use Rattle.alg_lines.specs.declared.answer.Answer.{Answer}
-use Rattle.alg_lines.specs.declared.answer.Answer.TheVariants.{Proved, ZeroDenominator}
+use Rattle.alg_lines.specs.AnswerTerms.{terms_of}
 use Rattle.alg_printer.specs.FormatOne.{text_one_of}
 use Rattle.alg_printer.specs.Printable.{ArePrintable}
 use Rattle.alg_printer.specs.Text.{answer_at, statement_text, text_of}
@@ -11,11 +11,9 @@ use Rattle.alg_reading_back.specs.ReadingBack.{most_open}
 use Rattle.alg_terms.specs.declared.file.File.{File}
 use Rattle.alg_terms.specs.declared.file.Statement.{Statement}
 use Rattle.alg_terms.specs.declared.file.Statement.TheVariants as statement
-use Rattle.alg_terms.specs.declared.term.Term.{Term}
 use Rattle.alg_terms.specs.Limits.{MAX_OPEN}
-use Rattle.alg_terms.specs.Nodes.{fold_term}
-use Rattle.alg_terms.specs.Occurring.{node_vars, node_homs}
-use Rattle.alg_terms.specs.Order.{Members, declared_by_all}
+use Rattle.alg_terms.specs.Occurring.{UseOnly}
+use Rattle.alg_terms.specs.Order.{declared_by_all}
 use Rattle.alg_terms.specs.Valid.{IsValid}
 
 -- ---- what is asked of the answers
@@ -24,22 +22,12 @@ use Rattle.alg_terms.specs.Valid.{IsValid}
 abbrev pub AnswersOpenFew : File → List (Option Answer) → Type 0
 AnswersOpenFew file answers = All (λ s. most_open 0 (statement_text file answers s) ≤ MAX_OPEN) file.order
 
--- the terms of an answer
-abbrev pub terms_of : Answer → List Term
-terms_of (Proved conditions) = conditions
-terms_of (ZeroDenominator denominator) = denominator ∷ []
-terms_of said = []
-
--- the variables and morphisms of the terms are among these members
-pub record AreNamedBy (members : Members) (terms : List Term) : Type 0 where
-  pub vars : All (Contains members.vars) (flat_map (fold_term node_vars) terms)
-  pub homs : All (Contains members.homs) (flat_map (fold_term node_homs) terms)
-
 -- the terms of each answer use only members of statements before its goal, as the goal does
 abbrev pub AreAnswersInOrder : File → List (Option Answer) → Type 0
 AreAnswersInOrder file answers = (before after : List Statement) (i : ℕ) →
     file.order ≡ before ++ (statement.Goal i ∷ after) →
-    IfSome (answer_at answers i) (λ answer. AreNamedBy (declared_by_all before) (terms_of answer))
+    let declared = declared_by_all before in
+    IfSome (answer_at answers i) (λ answer. UseOnly declared.vars declared.homs (terms_of answer))
 
 -- the file is valid, and the answers can be printed, each below its goal
 pub record CanBePrinted (file : File) (answers : List (Option Answer)) : Type 0 where

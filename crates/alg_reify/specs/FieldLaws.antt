@@ -1,5 +1,5 @@
 -- What holds of the verdicts by field.
-use Rattle.std.specs.Prelude.{◌≡◌, ◌≢◌, ◌<◌, ◌≤◌, ℤ, List, [], ◌∷◌, All, Contains, flat_map, length, unsigned_abs}
+use Rattle.std.specs.Prelude.{◌≡◌, ◌≢◌, ◌<◌, ◌≤◌, ℤ, List, [], ◌∷◌, All, length, unsigned_abs}
 use Rattle.std.specs.Ordering.{nat_cmp}
 use Rattle.alg_terms.specs.declared.file.File.{File}
 use Rattle.alg_terms.specs.declared.goals.Equation.{Equation}
@@ -8,8 +8,7 @@ use Rattle.alg_terms.specs.declared.goals.Method.TheVariants.{ByField}
 use Rattle.alg_terms.specs.declared.term.Term.{Term}
 use Rattle.alg_terms.specs.AnswerRules.{IsAnswerTerm}
 use Rattle.alg_terms.specs.GoalRules.{IsGoal}
-use Rattle.alg_terms.specs.Nodes.{fold_term}
-use Rattle.alg_terms.specs.Occurring.{homs_in, node_homs, node_vars, vars_in}
+use Rattle.alg_terms.specs.Occurring.{UseOnly, homs_in, vars_in}
 use Rattle.alg_mono.specs.FiniteMaps.{Each}
 use Rattle.alg_mono.specs.Mono.{Monomial}
 use Rattle.alg_mono.specs.Monomials.{IsMono}
@@ -69,17 +68,13 @@ pub record FieldTermsMayStand : Type 0 where
   pub denominator : (file : File) (goal : Goal) (t : Term) → IsGoal file goal → goal.method ≡ ByField →
       IsFieldVerdict file goal.equation (FieldVerdict.ZeroDenominator t) → IsAnswerTerm file goal t
 
--- the terms use only the variables and the morphisms of the equation
-pub record OccurIn (e : Equation) (terms : List Term) : Type 0 where
-  pub vars : All (Contains (vars_in e)) (flat_map (fold_term node_vars) terms)
-  pub homs : All (Contains (homs_in e)) (flat_map (fold_term node_homs) terms)
-
--- so do the conditions of a verdict by field, and its denominator that is zero
+-- the conditions of a verdict by field, and its denominator that is zero, use only the variables and the morphisms of
+-- the equation
 pub record FieldTermsOccur : Type 0 where
   pub conditions : (file : File) (e : Equation) (terms : List Term) →
-      IsFieldVerdict file e (FieldVerdict.Proved terms) → OccurIn e terms
+      IsFieldVerdict file e (FieldVerdict.Proved terms) → UseOnly (vars_in e) (homs_in e) terms
   pub denominator : (file : File) (e : Equation) (t : Term) →
-      IsFieldVerdict file e (FieldVerdict.ZeroDenominator t) → OccurIn e (t ∷ [])
+      IsFieldVerdict file e (FieldVerdict.ZeroDenominator t) → UseOnly (vars_in e) (homs_in e) (t ∷ [])
 
 -- by the numbers of its table, the numerators of an equation's sides over their common factors are made of the sides'
 -- fractions, breaking the same rules, and are equal only where the numerators are

@@ -2,6 +2,7 @@ pub mod Built
 pub mod BuiltNodes
 pub mod Depths
 pub mod EveryNode
+pub mod JoinedLists
 pub mod SmallFile
 pub mod SmallNames
 pub mod Splits

@@ -1,6 +1,7 @@
 -- The variables and the morphisms that occur in terms.
-use Rattle.std.specs.Prelude.{ℕ, List, [], ◌∷◌, ◌++◌}
+use Rattle.std.specs.Prelude.{ℕ, List, [], ◌∷◌, ◌++◌, All, Contains, flat_map}
 use Rattle.alg_terms.specs.declared.goals.Equation.{Equation}
+use Rattle.alg_terms.specs.declared.term.Term.{Term}
 use Rattle.alg_terms.specs.declared.term.Term.TheOpen.{Term-F}
 use Rattle.alg_terms.specs.Nodes.{fold_term}
 
@@ -34,3 +35,8 @@ vars_in e = fold_term node_vars e.left ++ fold_term node_vars e.right
 
 abbrev pub homs_in : Equation → List ℕ
 homs_in e = fold_term node_homs e.left ++ fold_term node_homs e.right
+
+-- the terms use only these variables and morphisms
+pub record UseOnly (variables morphisms : List ℕ) (terms : List Term) : Type 0 where
+  pub vars : All (Contains variables) (flat_map (fold_term node_vars) terms)
+  pub homs : All (Contains morphisms) (flat_map (fold_term node_homs) terms)

@@ -1,5 +1,5 @@
 -- Terms of answers in a file with one more statement: they keep the rules that they kept.
-use Rattle.std.proofs.Common.{◌≡◌, ◌<◌, ◌++◌, ℕ, List, [], ◌∷◌, length, Option, None, Some, refl, sym, ap, subst}
+use Rattle.std.proofs.Common.{◌<◌, ℕ, List, [], ◌∷◌, length, Option, None, Some, refl, sym, subst}
 use Rattle.std.specs.Prelude.{unwrap_or, IfSome}
 use Rattle.std.proofs.lemmas.List.{append-nil}
 use Rattle.alg_terms.specs.AnswerRules.{IsAnswerTerm, MayDivide}

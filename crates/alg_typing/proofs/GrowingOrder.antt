@@ -10,8 +10,9 @@ use Rattle.alg_terms.specs.declared.file.Statement.{Statement}
 use Rattle.alg_terms.specs.declared.file.Statement.TheVariants as statement
 use Rattle.alg_terms.specs.Members.{sort_of_var, hyp_at, goal_at}
 use Rattle.alg_terms.specs.Order.{numbers_from, Members, declared_by, used_by, AreAmong, declared_by_all, members_of, IsOneSorted, IsOrdered}
+use Rattle.alg_terms.proofs.JoinedLists.{all_flat}
 use Rattle.alg_typing.proofs.Growing.{Grows, sort_same}
-use Rattle.alg_typing.proofs.Ordering.{numbers_below, numbers_each, numbers_map, all_flat, last_or_before}
+use Rattle.alg_typing.proofs.Ordering.{numbers_below, numbers_each, numbers_map, last_or_before}
 
 -- what the statement declares is in the file
 pub record IsInFile (file : File) (s : Statement) : Type 0 where

@@ -16,11 +16,12 @@ use Rattle.alg_terms.specs.Members.{no_sort, no_hom, no_var, no_hyp, no_goal}
 use Rattle.alg_terms.specs.Names.{IsName}
 use Rattle.alg_terms.specs.Order.{numbers_from}
 use Rattle.alg_terms.specs.Valid.{IsValid, IsHom, IsVar, names_of}
+use Rattle.alg_terms.proofs.JoinedLists.{all_left, all_right}
 use Rattle.alg_typing.specs.Names.{declared_as}
 use Rattle.alg_typing.proofs.Growing.{Grows}
 use Rattle.alg_typing.proofs.GrowingGoals.{hyp_same, goal_same}
 use Rattle.alg_typing.proofs.FreshNames.{AreDistinct, AreApart, not_declared, distinct_inserted, distinct_from_pairs, pairs_from_distinct, recursion_weaker, IsNew}
-use Rattle.alg_typing.proofs.Ordering.{numbers-append, all_left, all_right}
+use Rattle.alg_typing.proofs.Ordering.{numbers-append}
 
 -- the further members of each list
 pub record Further (old new : File) : Type 0 where

@@ -1,7 +1,6 @@
--- Lists of numbers that rise by one, lists that are put together, and what holds of their items.
+-- Lists of numbers that rise by one, and lists with one more item.
 use Rattle.std.proofs.Common.{◌≡◌, ◌<◌, ℕ, zero, suc, ◌+◌, List, [], ◌∷◌, ◌++◌, ◌⊎◌, inl, inr, length, map, refl, sym, ap, ◌∙◌, subst, arith}
 use Rattle.std.specs.Prelude.{All}
-use Rattle.std.specs.List.{flat_map}
 use Rattle.std.proofs.lemmas.List.Elements.{All-head, All-tail, All-cons, All-nil}
 use Rattle.alg_terms.specs.Order.{numbers_from}
 
@@ -48,24 +47,6 @@ numbers_map f g first (suc count) same =
     let e : first + suc k ≡ suc first + k = omega arith in
     subst (λ n. f n ≡ g n) e (same (suc k) (omega arith))) in
     ap (λ x. x ∷ map f (numbers_from (suc first) count)) here ∙ ap (λ xs. g first ∷ xs) later
-
--- what holds of the items of two lists put together holds of those of each
-pub all_left : {X : Type 0} (P : X → Type 0) (xs ys : List X) → All P (xs ++ ys) → All P xs
-all_left P [] ys h = All-nil P
-all_left P (x ∷ xs) ys h =
-    All-cons P x xs (All-head P x (xs ++ ys) h) (all_left P xs ys (All-tail P x (xs ++ ys) h))
-
-pub all_right : {X : Type 0} (P : X → Type 0) (xs ys : List X) → All P (xs ++ ys) → All P ys
-all_right P [] ys h = h
-all_right P (x ∷ xs) ys h = all_right P xs ys (All-tail P x (xs ++ ys) h)
-
--- what holds of the items of lists put together holds of those of each
-pub all_flat : {X Y : Type 0} (P : Y → Type 0) (f : X → List Y) (xs : List X) → All P (flat_map f xs) →
-    All (λ x. All P (f x)) xs
-all_flat P f [] h = All-nil (λ x. All P (f x))
-all_flat P f (x ∷ xs) h =
-    All-cons (λ x. All P (f x)) x xs (all_left P (f x) (flat_map f xs) h)
-    (all_flat P f xs (all_right P (f x) (flat_map f xs) h))
 
 -- an item of a list with one more is the last one, or stands in the list
 pub last_or_before : {X : Type 0} (xs before after : List X) (x y : X) → xs ++ x ∷ [] ≡ before ++ (y ∷ after) →

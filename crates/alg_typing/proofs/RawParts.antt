@@ -9,8 +9,8 @@ use Rattle.alg_reader.specs.RawTerms.{Node, fold_raw, fold_under, of_parts, name
 use Rattle.alg_reader.specs.WellRead.{IsNameAt}
 use Rattle.std.specs.Int.RustNames.{unsigned_abs}
 use Rattle.alg_terms.specs.Limits.{MAX_EXPONENT}
+use Rattle.alg_terms.proofs.JoinedLists.{all_left as first_all, all_right as last_all}
 use Rattle.alg_typing.specs.TermsOf.{IsTermOf, IsSmallTermOf, IsExponent}
-use Rattle.alg_typing.proofs.Ordering.{all_left as first_all, all_right as last_all}
 use Rattle.alg_reader.proofs.Built.{fold_under-Neg, fold_under-Add, fold_under-Sub, fold_under-Mul, fold_under-Div, fold_under-Pow, fold_under-Hom}
 
 -- the node of a term is an operator on two parts

@@ -10,7 +10,7 @@ use Rattle.alg_terms.specs.TermRules.{IsInRange}
 use Rattle.alg_tokens.specs.declared.token.Refusal.{Refusal}
 use Rattle.alg_reader.specs.declared.raw.RawNode.{RawNode, more_of-RawTerm, Var, Int, Neg', Add', Sub', Mul', Div', Pow', Hom'}
 use Rattle.alg_reader.specs.RawTerms as raw
-use Rattle.alg_reader.specs.RawTerms.{fold_under, of_parts, literals_of_node}
+use Rattle.alg_reader.specs.RawTerms.{fold_under, of_parts}
 use Rattle.alg_typing.specs.NameFaults.{node_name}
 use Rattle.alg_typing.specs.Resolved.{node_term}
 use Rattle.alg_typing.specs.TermSorts.{Sorted, differ, node_sorted}

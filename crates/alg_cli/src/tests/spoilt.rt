@@ -35,14 +35,8 @@ struct Change {
     status: Status,
 }
 
-/// Changes to the certificate.
-const CHANGES: [Change; 14] = [
-    Change {
-        old: "line 1, 1, 2 minus",
-        new: "line 1, 1, 3 minus",
-        output: "goal 1: bad at 1\n",
-        status: Status::NotAll,
-    },
+/// Changes to a certificate in either format.
+const CHANGES: [Change; 7] = [
     Change {
         old: "over 2",
         new: "over 0",
@@ -52,6 +46,46 @@ const CHANGES: [Change; 14] = [
     Change {
         old: "over 2",
         new: "over 3",
+        output: "goal 1: bad at 1\n",
+        status: Status::NotAll,
+    },
+    Change {
+        old: "line 1,",
+        new: "line 170141183460469231731687303715884105727,",
+        output: "goal 1: bad at 1\n",
+        status: Status::NotAll,
+    },
+    Change {
+        old: "step 1 minus 1",
+        new: "step 0 minus 1",
+        output: "goal 1: bad at 2\n",
+        status: Status::NotAll,
+    },
+    Change {
+        old: "power 1 if",
+        new: "power 2 if",
+        output: "goal 1: bad\n",
+        status: Status::NotAll,
+    },
+    Change {
+        old: "power 1 if",
+        new: "power 0 if",
+        output: "goal 1: bad\n",
+        status: Status::NotAll,
+    },
+    Change {
+        old: " if 2 <> 0",
+        new: "",
+        output: "goal 1: bad\n",
+        status: Status::NotAll,
+    },
+];
+
+/// Changes to the one in the first format.
+const CHANGES_IN_FORMAT_ONE: [Change; 7] = [
+    Change {
+        old: "line 1, 1, 2 minus",
+        new: "line 1, 1, 3 minus",
         output: "goal 1: bad at 1\n",
         status: Status::NotAll,
     },
@@ -74,12 +108,6 @@ const CHANGES: [Change; 14] = [
         status: Status::Refused,
     },
     Change {
-        old: "line 1,",
-        new: "line 170141183460469231731687303715884105727,",
-        output: "goal 1: bad at 1\n",
-        status: Status::NotAll,
-    },
-    Change {
         old: "line 1, 1,",
         new: "line 1, x^1000,",
         output: "goal 1: bad at 1\n",
@@ -92,54 +120,18 @@ const CHANGES: [Change; 14] = [
         status: Status::Refused,
     },
     Change {
-        old: "step 1 minus 1",
-        new: "step 0 minus 1",
-        output: "goal 1: bad at 2\n",
-        status: Status::NotAll,
-    },
-    Change {
         old: "1, 3 over",
         new: "1, 4 over",
         output: "goal 1: bad at 3\n",
         status: Status::NotAll,
     },
-    Change {
-        old: "proved power 1 if",
-        new: "proved power 2 if",
-        output: "goal 1: bad\n",
-        status: Status::NotAll,
-    },
-    Change {
-        old: "proved power 1 if",
-        new: "proved power 0 if",
-        output: "goal 1: bad\n",
-        status: Status::NotAll,
-    },
-    Change {
-        old: " if 2 <> 0",
-        new: "",
-        output: "goal 1: bad\n",
-        status: Status::NotAll,
-    },
 ];
 
 /// Changes to the one in the second format.
-const CHANGES_IN_FORMAT_TWO: [Change; 16] = [
+const CHANGES_IN_FORMAT_TWO: [Change; 9] = [
     Change {
         old: "line 1, 2 minus",
         new: "line 1, 3 minus",
-        output: "goal 1: bad at 1\n",
-        status: Status::NotAll,
-    },
-    Change {
-        old: "over 2",
-        new: "over 0",
-        output: "goal 1: bad at 1\n",
-        status: Status::NotAll,
-    },
-    Change {
-        old: "over 2",
-        new: "over 3",
         output: "goal 1: bad at 1\n",
         status: Status::NotAll,
     },
@@ -162,12 +154,6 @@ const CHANGES_IN_FORMAT_TWO: [Change; 16] = [
         status: Status::Refused,
     },
     Change {
-        old: "line 1,",
-        new: "line 170141183460469231731687303715884105727,",
-        output: "goal 1: bad at 1\n",
-        status: Status::NotAll,
-    },
-    Change {
         old: "line 1, 2",
         new: "line 1, x^1000, 2",
         output: "goal 1: bad at 1\n",
@@ -180,33 +166,9 @@ const CHANGES_IN_FORMAT_TWO: [Change; 16] = [
         status: Status::Refused,
     },
     Change {
-        old: "step 1 minus 1",
-        new: "step 0 minus 1",
-        output: "goal 1: bad at 2\n",
-        status: Status::NotAll,
-    },
-    Change {
         old: "minus -1, 3.",
         new: "minus -1, 4.",
         output: "goal 1: bad at 3\n",
-        status: Status::NotAll,
-    },
-    Change {
-        old: "2 power 1 if",
-        new: "2 power 2 if",
-        output: "goal 1: bad\n",
-        status: Status::NotAll,
-    },
-    Change {
-        old: "2 power 1 if",
-        new: "2 power 0 if",
-        output: "goal 1: bad\n",
-        status: Status::NotAll,
-    },
-    Change {
-        old: " if 2 <> 0",
-        new: "",
-        output: "goal 1: bad\n",
         status: Status::NotAll,
     },
     Change {
@@ -227,6 +189,8 @@ const CHANGES_IN_FORMAT_TWO: [Change; 16] = [
 fn a_change_to_a_certificate_is_found(rt: HostRuntime) -> Result<(), Fail> {
     for (certificate, changes) in [
         (CERTIFICATE, CHANGES.as_slice()),
+        (CERTIFICATE_IN_FORMAT_TWO, CHANGES.as_slice()),
+        (CERTIFICATE, CHANGES_IN_FORMAT_ONE.as_slice()),
         (CERTIFICATE_IN_FORMAT_TWO, CHANGES_IN_FORMAT_TWO.as_slice()),
     ] {
         for change in changes {

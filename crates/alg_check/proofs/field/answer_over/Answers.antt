@@ -1,4 +1,4 @@
-use Rattle.std.proofs.Common.{◌≡◌, ◌≤◌, List, length, subst}
+use Rattle.std.proofs.Common.{◌≤◌, List, length, subst}
 use Rattle.std.proofs.lemmas.Result.{IfOk-weaker}
 use Rattle.alg_terms.specs.declared.term.Atom.{Atom}
 use Rattle.alg_terms.specs.declared.term.Term.{Term}

@@ -1,6 +1,5 @@
 use Rattle.std.proofs.Common.{◌++◌, sym, ap, subst, ◌∙◌}
 use Rattle.alg_mono.specs.Outcomes.{Outcome, product_outcome}
-use Rattle.alg_meaning.specs.FractionRules.{worse}
 use Rattle.alg_check.specs.Bounds.{Fits}
 use Rattle.alg_check.specs.Factors.{as_map}
 use Rattle.alg_check.proofs.FactorCounts.{below_is}

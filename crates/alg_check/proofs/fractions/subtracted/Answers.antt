@@ -1,4 +1,3 @@
-use Rattle.std.proofs.Common.{◌∙◌}
 use Rattle.alg_mono.specs.NumberedPolynomials.{Polynomial, difference_of}
 use Rattle.alg_mono.specs.Outcomes.{sum_outcome}
 use Rattle.alg_reify.proofs.Giving.{gives_after}

@@ -1,5 +1,4 @@
 use Rattle.std.proofs.Common.{◌≡◌, rules, inl, inr, refl, ◌∙◌, sym}
-use Rattle.alg_lines.specs.Constants.{constants}
 use Rattle.alg_check.proofs.goal.constants_report.Goals as goal
 
 -- other constants are printed

@@ -23,8 +23,8 @@ returns-in_err-sum-clause-refused c =
     subst (Tells c.in_err-sum.field-0.0) is tells in
     search (rules, told)
 
-pub quotient_by-requires : goal.quotient_by-requires
-quotient_by-requires c =
+pub over_int-requires : goal.over_int-requires
+over_int-requires c =
     let fits : SFits w128 c.content_of-d.result = search rules in
     let divides = c.content_of-d.ensures.divides in
     search (rules, divides)

@@ -1,4 +1,4 @@
-use Rattle.std.proofs.Common.{◌≡◌, [], map, sym, ap, ◌∙◌, Bool, false, rules}
+use Rattle.std.proofs.Common.{◌≡◌, [], map, sym, ap, ◌∙◌, false, rules}
 use Rattle.std.proofs.lemmas.Result.{IfOk-weaker}
 use Rattle.alg_lines.specs.Constants.{constants, added}
 use Rattle.alg_lines.proofs.Added.{added-append}

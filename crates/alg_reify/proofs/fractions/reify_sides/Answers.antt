@@ -1,5 +1,5 @@
 use Rattle.std.proofs.Common.{◌∙◌}
-use Rattle.alg_reify.proofs.FieldSides.{over_left, over_right, both_failed, left_told, right_told, both_are}
+use Rattle.alg_reify.proofs.FieldSides.{over_left, over_right, both_are}
 use Rattle.alg_reify.proofs.fractions.reify_sides.Goals as goal
 
 pub make-requires : goal.make-requires

@@ -1,4 +1,4 @@
-use Rattle.std.proofs.Common.{◌≡◌, ◌∷◌, [], ◌++◌, List, Option, Some, ◌∙◌, ap, refl, sym, subst}
+use Rattle.std.proofs.Common.{◌≡◌, ◌++◌, List, Option, Some, ◌∙◌, ap, refl, sym, subst}
 use Rattle.alg_lines.specs.declared.answer.Answer.{Answer}
 use Rattle.alg_tokens.specs.declared.token.Refusal.{Refusal}
 use Rattle.alg_reader.specs.declared.reading.FileEnd.{FileEnd}
@@ -7,7 +7,7 @@ use Rattle.alg_typing.specs.Ends.{RefusesWith}
 use Rattle.alg_typing.proofs.FirstFaults.{error_tells_nothing, memory_tells_nothing}
 use Rattle.alg_typing.proofs.ReadingSteps.{passed_on}
 use Rattle.alg_annotated.specs.declared.open_answer.Open.{Open}
-use Rattle.alg_annotated.specs.Progress.{answers_open, opened, place_of, so_far, HasTable}
+use Rattle.alg_annotated.specs.Progress.{answers_open, place_of, so_far, HasTable}
 use Rattle.alg_annotated.specs.Places.{place_behind}
 use Rattle.alg_annotated.specs.Resolved.{answers_with}
 use Rattle.alg_annotated.proofs.Progressing.{declared_answers, declared_place, declared_table}

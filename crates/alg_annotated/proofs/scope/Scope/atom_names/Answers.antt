@@ -1,4 +1,4 @@
-use Rattle.std.proofs.Common.{[], ◌∷◌, ◌++◌, ◌∙◌, ap, sym, subst, flat_map}
+use Rattle.std.proofs.Common.{◌∙◌, ap, sym, subst, flat_map}
 use Rattle.std.specs.Prelude.{All}
 use Rattle.alg_reader.specs.WellRead.{IsNameAt}
 use Rattle.alg_typing.specs.Faults.{earlier_of, first_of}

@@ -1,4 +1,4 @@
-use Rattle.std.proofs.Common.{List, [], ◌++◌, ◌∙◌, ap, append_assoc, sym}
+use Rattle.std.proofs.Common.{List, ◌++◌, ◌∙◌, ap, append_assoc, sym}
 use Rattle.alg_reader.specs.declared.raw.RawKind.{RawKind}
 use Rattle.alg_terms.specs.declared.term.Atom.{Atom}
 use Rattle.alg_reify.specs.Table.{goal_atoms}

@@ -1,11 +1,20 @@
 use Rattle.std.specs.Prelude.{◌≡◌, ◌%◌, ◌↔◌, ℤ, pos, ◌≤ℤ◌, All, IsTrue, unsigned_abs}
-use Rattle.std.proofs.Common.{rules, subst, ◌∙◌}
+use Rattle.std.proofs.Common.{rules, refl, sym, subst, ◌∙◌, arith}
 use mir.Syntax.{w128}
 use mir.Val.{SFits}
+use Rattle.std.proofs.lemmas.Int.{ints}
 use Rattle.alg_mono.specs.Mono.{Monomial}
 use Rattle.alg_mono.specs.NumberedPolynomials.{Polynomial}
-use Rattle.alg_poly.proofs.Contents.{divides_each}
+use Rattle.alg_poly.specs.Divisors.{IsDivisible}
+use Rattle.alg_poly.proofs.Contents.{divides_each, one_divides_each}
 use Rattle.alg_poly.proofs.poly.Poly.divisible_by.Goals as goal
+
+pub returns-then-d-eq1 : goal.returns-then-d-eq1
+returns-then-d-eq1 c =
+    let fits : SFits w128 c.args.d = search rules in
+    let one : c.args.d ≡ pos 1 = search rules in
+    let low : pos 1 ≤ℤ pos 1 = omega (arith, ints) in
+    (λ h. subst (λ d. IsDivisible d c.args.self.now) (sym one) (low, one_divides_each c.args.self.now), λ h. refl)
 
 pub returns-then-d-ge1 : goal.returns-then-d-ge1
 returns-then-d-ge1 c =
