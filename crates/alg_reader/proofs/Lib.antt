@@ -1,4 +1,5 @@
 pub mod Built
+pub mod RawViews
 pub mod Depths
 pub mod Held
 pub mod HeldAnswers

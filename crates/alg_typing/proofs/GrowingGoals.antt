@@ -10,7 +10,7 @@ use Rattle.alg_terms.specs.declared.goals.Hyp.{Hyp}
 use Rattle.alg_terms.specs.declared.goals.Method.{Method}
 use Rattle.alg_terms.specs.declared.goals.Method.TheVariants.{ByRing, ByField, ByNsatz}
 use Rattle.alg_terms.specs.declared.goals.Use.{Use}
-use Rattle.alg_terms.specs.declared.term.Term.{Term, more_of-Term, Var, Int, Neg', Add', Sub', Mul', Div', Pow', Hom'}
+use Rattle.alg_terms.specs.declared.term.Term.{Term}
 use Rattle.alg_terms.specs.declared.term.Term.TheOpen.{Term-F}
 use Rattle.alg_terms.specs.GoalRules.{IsEquation, IsHyp, IsUse, MayBeBy, IsGoal}
 use Rattle.alg_terms.specs.Kinds.{IsDomain, IsField}
@@ -19,6 +19,7 @@ use Rattle.alg_terms.specs.Nodes.{fold_term, EachNode}
 use Rattle.alg_terms.specs.Sorts.{own_sort, equation_sort, Leads, hyp_sort}
 use Rattle.alg_terms.specs.TermRules.{IsInRange, HasFieldQuotients, DividesInFields}
 use Rattle.alg_terms.specs.Valid.{IsValid, IsHom, IsVar}
+use Rattle.alg_terms.proofs.Views.{Leaf, Unary, Binary, leaf, unary, binary, induction, nodes_binary, own_binary}
 use Rattle.alg_typing.proofs.Growing.{Grows, kind_same, source_same, target_same, field_same, field_targets, agree_same}
 use Rattle.alg_typing.proofs.OtherFiles.{nodes_go_over}
 use Rattle.alg_typing.proofs.GrowingTerms.{or_same, own_same, term_same}
@@ -33,21 +34,31 @@ or_in_range file None b h k = k
 or_in_range file (Some s) b h k = h
 
 module _ (file : File) (homs : All (IsHom file) file.homs) (vars : All (IsVar file) file.vars) where
-  pub own_in_range : (t : Term) → EachNode (IsInRange file) t → SortInRange file (own_sort file t)
+  abbrev OwnInRange : Term → Type 0
+  OwnInRange t = EachNode (IsInRange file) t → SortInRange file (own_sort file t)
+
+  leaf_in_range : (l : Leaf) → OwnInRange (leaf l)
   unfolding fold_term EachNode
-  own_in_range (Var k) r = vars k no_var r
-  own_in_range (Int n) r = tt
-  own_in_range (Neg' _ (more_of-Term t _)) r = own_in_range t r.1
-  own_in_range (Add' _ (more_of-Term t _) _ (more_of-Term u _)) r =
-      or_in_range file (own_sort file t) (own_sort file u) (own_in_range t r.1) (own_in_range u r.2)
-  own_in_range (Sub' _ (more_of-Term t _) _ (more_of-Term u _)) r =
-      or_in_range file (own_sort file t) (own_sort file u) (own_in_range t r.1) (own_in_range u r.2)
-  own_in_range (Mul' _ (more_of-Term t _) _ (more_of-Term u _)) r =
-      or_in_range file (own_sort file t) (own_sort file u) (own_in_range t r.1) (own_in_range u r.2)
-  own_in_range (Div' _ (more_of-Term t _) _ (more_of-Term u _)) r =
-      or_in_range file (own_sort file t) (own_sort file u) (own_in_range t r.1) (own_in_range u r.2)
-  own_in_range (Pow' _ (more_of-Term t _) n) r = own_in_range t r.1
-  own_in_range (Hom' f _ (more_of-Term t _)) r = (homs f no_hom r.0).target
+  leaf_in_range (Leaf.Variable k) r = vars k no_var r
+  leaf_in_range (Leaf.Literal n) r = tt
+
+  unary_in_range : (o : Unary) (t : Term) → OwnInRange t → OwnInRange (unary o t)
+  unfolding fold_term EachNode
+      Rattle.alg_terms.specs.declared.term.Term.TheBlock.hidden-the_row-Term-0 denote.Hole.Carrier.hidden
+  unary_in_range Unary.Opposite t part r = part r.1
+  unary_in_range (Unary.Power n) t part r = part r.1
+  unary_in_range (Unary.Image f) t part r = (homs f no_hom r.0).target
+
+  binary_in_range : (o : Binary) (t u : Term) → OwnInRange t → OwnInRange u → OwnInRange (binary o t u)
+  binary_in_range o t u left right r =
+      let (here, first, second) = (nodes_binary (IsInRange file) o t u).0 r in
+      subst (SortInRange file) (sym (own_binary file o t u))
+      (or_in_range file (own_sort file t) (own_sort file u) (left first) (right second))
+
+  pub own_in_range : (t : Term) → OwnInRange t
+  own_in_range =
+      induction OwnInRange
+      (record { of_leaf = leaf_in_range; of_unary = unary_in_range; of_binary = binary_in_range })
 
   -- the sort of two sides is one of the file
   pub sides_in_range : (left right : Term) (sort : ℕ) → EachNode (IsInRange file) left →

@@ -1,14 +1,15 @@
 -- Terms in a file with more members: they have the own sorts and keep the rules that they had.
-use Rattle.std.proofs.Common.{◌≡◌, ℕ, Option, Some, refl, ap, ◌∙◌, arith}
+use Rattle.std.proofs.Common.{◌≡◌, ℕ, Option, Some, refl, sym, ap, ◌∙◌, arith}
 use Rattle.std.specs.Option.{option_or}
 use Rattle.alg_terms.specs.declared.file.File.{File}
-use Rattle.alg_terms.specs.declared.term.Term.{Term, more_of-Term, Var, Int, Neg', Add', Sub', Mul', Div', Pow', Hom'}
+use Rattle.alg_terms.specs.declared.term.Term.{Term}
 use Rattle.alg_terms.specs.declared.term.Term.TheOpen.{Term-F}
 use Rattle.alg_terms.specs.Members.{source_of}
 use Rattle.alg_terms.specs.Nodes.{fold_term, EachNode}
 use Rattle.alg_terms.specs.Sorts.{own_sort, Agree}
 use Rattle.alg_terms.specs.TermRules.{IsTerm, IsInRange, HasAgreeingParts, HasFittingArgument}
 use Rattle.alg_terms.proofs.EveryNode.{OfParts, nodes_imply}
+use Rattle.alg_terms.proofs.Views.{Leaf, Unary, Binary, leaf, unary, binary, induction, nodes_binary, own_binary}
 use Rattle.alg_typing.proofs.Growing.{Grows, source_same, target_same, sort_same, agree_same}
 
 pub or_same : (a b a' b' : Option ℕ) → a' ≡ a → b' ≡ b → option_or a' b' ≡ option_or a b
@@ -43,18 +44,29 @@ module _ (R : Term-F Term → Type 0) (old new : File)
   arguments_kept = nodes_imply R (HasFittingArgument old) (HasFittingArgument new) argument_node
 
 module _ (old new : File) (grows : Grows old new) where
-  -- a term in range has the own sort that it had
-  pub own_same : (t : Term) → EachNode (IsInRange old) t → own_sort new t ≡ own_sort old t
+  abbrev Same : Term → Type 0
+  Same t = EachNode (IsInRange old) t → own_sort new t ≡ own_sort old t
+
+  same_leaf : (l : Leaf) → Same (leaf l)
   unfolding fold_term EachNode
-  own_same (Var k) r = ap Some (sort_same old new grows k r)
-  own_same (Int n) r = refl
-  own_same (Neg' _ (more_of-Term t _)) r = own_same t r.1
-  own_same (Add' _ (more_of-Term t _) _ (more_of-Term u _)) r = or_same _ _ _ _ (own_same t r.1) (own_same u r.2)
-  own_same (Sub' _ (more_of-Term t _) _ (more_of-Term u _)) r = or_same _ _ _ _ (own_same t r.1) (own_same u r.2)
-  own_same (Mul' _ (more_of-Term t _) _ (more_of-Term u _)) r = or_same _ _ _ _ (own_same t r.1) (own_same u r.2)
-  own_same (Div' _ (more_of-Term t _) _ (more_of-Term u _)) r = or_same _ _ _ _ (own_same t r.1) (own_same u r.2)
-  own_same (Pow' _ (more_of-Term t _) n) r = own_same t r.1
-  own_same (Hom' f _ (more_of-Term t _)) r = ap Some (target_same old new grows f r.0)
+  same_leaf (Leaf.Variable k) r = ap Some (sort_same old new grows k r)
+  same_leaf (Leaf.Literal n) r = refl
+
+  same_unary : (o : Unary) (t : Term) → Same t → Same (unary o t)
+  unfolding fold_term EachNode
+      Rattle.alg_terms.specs.declared.term.Term.TheBlock.hidden-the_row-Term-0 denote.Hole.Carrier.hidden
+  same_unary Unary.Opposite t same r = same r.1
+  same_unary (Unary.Power n) t same r = same r.1
+  same_unary (Unary.Image f) t same r = ap Some (target_same old new grows f r.0)
+
+  same_binary : (o : Binary) (t u : Term) → Same t → Same u → Same (binary o t u)
+  same_binary o t u left right r =
+      let (here, first, second) = (nodes_binary (IsInRange old) o t u).0 r in
+      own_binary new o t u ∙ or_same _ _ _ _ (left first) (right second) ∙ sym (own_binary old o t u)
+
+  -- a term in range has the own sort that it had
+  pub own_same : (t : Term) → Same t
+  own_same = induction Same (record { of_leaf = same_leaf; of_unary = same_unary; of_binary = same_binary })
 
   -- a term in range is in range still
   range_node : (n : Term-F Term) → IsInRange old n → OfParts (IsInRange old) n → IsInRange old n → IsInRange new n

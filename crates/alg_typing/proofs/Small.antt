@@ -1,5 +1,5 @@
 -- What is without fault of sorts has small exponents and options, and the own sorts of terms that were built.
-use Rattle.std.proofs.Common.{◌≡◌, ◌<◌, ◌^◌, ℕ, Bool, true, false, ◌||◌, nat_lt, List, [], sym, All, Option, None, Some, arith, IfSome}
+use Rattle.std.proofs.Common.{◌≡◌, ◌<◌, ◌^◌, ℕ, Bool, true, false, ◌||◌, nat_lt, List, [], ◌++◌, sym, All, Option, None, Some, arith, IfSome}
 use Rattle.std.specs.Int.RustNames.{unsigned_abs}
 use Rattle.std.specs.Option.{option_or}
 use Rattle.std.proofs.lemmas.Bool.Decides.{nat_tests}
@@ -11,14 +11,15 @@ use Rattle.alg_tokens.specs.declared.code.Code.TheVariants as code
 use Rattle.alg_reader.specs.declared.raw.RawEquation.{RawEquation}
 use Rattle.alg_reader.specs.declared.raw.RawMethod.{RawMethod}
 use Rattle.alg_reader.specs.declared.raw.RawMethod.TheVariants as methods
-use Rattle.alg_reader.specs.declared.raw.RawNode.{RawNode, more_of-RawTerm, Var, Int, Neg', Add', Sub', Mul', Div', Pow', Hom'}
+use Rattle.alg_reader.specs.declared.raw.RawNode.{RawNode}
 use Rattle.alg_reader.specs.declared.raw.RawNumber.{RawNumber}
 use Rattle.alg_reader.specs.declared.raw.RawTerm.{RawTerm}
 use Rattle.alg_reader.specs.RawTerms.{fold_under, exponents_of_node}
 use Rattle.alg_reader.specs.WellRead.{IsWellEquation, IsWellTerm}
+use Rattle.alg_reader.proofs.RawViews.{AreRelated, related}
 use Rattle.alg_typing.specs.Resolved.{term_of}
 use Rattle.alg_typing.specs.SortFaults.{option_range, equation_sorts, method_sorts, sort_of_sides}
-use Rattle.alg_typing.specs.TermSorts.{sorted, node_sorted, exponent, operator}
+use Rattle.alg_typing.specs.TermSorts.{Sorted, sorted, node_sorted, exponent, operator}
 use Rattle.alg_typing.specs.TermsOf.{IsExponent, IsSmallTermOf, HasSmallOptions}
 use Rattle.alg_typing.proofs.GrowingTerms.{or_same}
 use Rattle.alg_typing.proofs.NumbersInRange.{parts_empty, no_fault}
@@ -27,46 +28,45 @@ use Rattle.alg_typing.proofs.Resolving.{own_resolved}
 use Rattle.alg_typing.proofs.SortedTerms.{exponent_in_range}
 
 module _ (file : File) (text : List ℕ) (may : Bool) where
-  -- the parts of an operator without faults have none
-  operator_empty : (head k l : ℕ) (t u : RawNode) (final : Option ℕ) (in_fields : Bool) →
-      (operator head (fold_under (node_sorted file text may) k t)
-      (fold_under (node_sorted file text may) l u)).faults final in_fields ≡ [] →
-      ((fold_under (node_sorted file text may) k t).faults final in_fields ≡ [])
-      × ((fold_under (node_sorted file text may) l u).faults final in_fields ≡ [])
-  operator_empty head k l t u final in_fields h =
-      let (front, back) = parts_empty _ _ h in ((parts_empty _ _ front).1, back)
+  -- the exponents of a node without faults are small
+  abbrev AreSmall : Sorted → List RawNumber → Type 0
+  AreSmall s exponents = (final : Option ℕ) (in_fields : Bool) → s.faults final in_fields ≡ [] → All IsExponent exponents
 
-  -- the exponents of a node without faults
-  exponents_under : (head : ℕ) (n : RawNode) (final : Option ℕ) (in_fields : Bool) →
-      (fold_under (node_sorted file text may) head n).faults final in_fields ≡ [] →
-      All IsExponent (fold_under (own_and_parts exponents_of_node) head n)
-  unfolding fold_under
-  exponents_under head (Var name) final in_fields h = All-nil IsExponent
-  exponents_under head (Int n) final in_fields h = All-nil IsExponent
-  exponents_under head (Neg' _ (more_of-RawTerm k t _)) final in_fields h = exponents_under k t final in_fields h
-  exponents_under head (Add' _ (more_of-RawTerm k t _) _ (more_of-RawTerm l u _)) final in_fields h =
-      let (left, right) = operator_empty head k l t u final in_fields h in
-      All-append IsExponent _ _ (exponents_under k t final in_fields left) (exponents_under l u final in_fields right)
-  exponents_under head (Sub' _ (more_of-RawTerm k t _) _ (more_of-RawTerm l u _)) final in_fields h =
-      let (left, right) = operator_empty head k l t u final in_fields h in
-      All-append IsExponent _ _ (exponents_under k t final in_fields left) (exponents_under l u final in_fields right)
-  exponents_under head (Mul' _ (more_of-RawTerm k t _) _ (more_of-RawTerm l u _)) final in_fields h =
-      let (left, right) = operator_empty head k l t u final in_fields h in
-      All-append IsExponent _ _ (exponents_under k t final in_fields left) (exponents_under l u final in_fields right)
-  exponents_under head (Div' _ (more_of-RawTerm k t _) _ (more_of-RawTerm l u _)) final in_fields h =
-      let (left, right) = operator_empty head k l t u final in_fields (parts_empty _ _ h).1 in
-      All-append IsExponent _ _ (exponents_under k t final in_fields left) (exponents_under l u final in_fields right)
-  exponents_under head (Pow' _ (more_of-RawTerm k t _) n) final in_fields h =
-      let parts = parts_empty (exponent n) _ h in
-      All-cons IsExponent n _ (exponent_in_range n parts.0) (exponents_under k t final in_fields parts.1)
-  exponents_under head (Hom' name _ (more_of-RawTerm k t _)) final in_fields h =
-      let parts = parts_empty _ _ h in exponents_under k t _ _ parts.1
+  abbrev under : ℕ → RawNode → Sorted
+  under = fold_under (node_sorted file text may)
+
+  abbrev exponents_under : ℕ → RawNode → List RawNumber
+  exponents_under = fold_under (own_and_parts exponents_of_node)
+
+  both_small : (head k l : ℕ) (t u : RawNode) → AreSmall (under k t) (exponents_under k t) →
+      AreSmall (under l u) (exponents_under l u) → (final : Option ℕ) (in_fields : Bool) →
+      (operator head (under k t) (under l u)).faults final in_fields ≡ [] →
+      All IsExponent (exponents_under k t ++ exponents_under l u)
+  both_small head k l t u left right final in_fields h =
+      let (front, back) = parts_empty _ _ h in
+      All-append IsExponent _ _ (left final in_fields (parts_empty _ _ front).1) (right final in_fields back)
+
+  exponent_nodes : AreRelated (node_sorted file text may) (own_and_parts exponents_of_node) AreSmall
+  exponent_nodes = record {
+    name = λ head span final in_fields h. All-nil IsExponent;
+    literal = λ head n final in_fields h. All-nil IsExponent;
+    opposite = λ head k t below. below;
+    power = λ head k t n below final in_fields h.
+        let parts = parts_empty (exponent n) _ h in
+        All-cons IsExponent n _ (exponent_in_range n parts.0) (below final in_fields parts.1);
+    image = λ head k t span below final in_fields h. below _ _ (parts_empty _ _ h).1;
+    sum = both_small;
+    difference = both_small;
+    product = both_small;
+    quotient = λ head k l t u left right final in_fields h.
+        both_small head k l t u left right final in_fields (parts_empty _ _ h).1;
+  }
 
   -- a term without faults of its sorts
   pub small_term : (t : RawTerm) (final : Option ℕ) (in_fields : Bool) → IsWellTerm text t →
       (sorted file text may t).faults final in_fields ≡ [] → IsSmallTermOf text t
   small_term t final in_fields well h =
-      record { names = well.names; exponents = exponents_under t.head t.node final in_fields h }
+      record { names = well.names; exponents = related _ _ _ exponent_nodes t.head t.node final in_fields h }
 
   -- the sides of an equation without faults of its sorts
   pub small_sides : (e : RawEquation) → IsWellEquation text e → equation_sorts file text may e ≡ [] →

@@ -19,11 +19,11 @@ use Rattle.alg_terms.specs.TermRules.{HasExponent, HasAgreeingParts, HasFittingA
 use Rattle.alg_tokens.specs.declared.code.Code.{Code}
 use Rattle.alg_tokens.specs.declared.code.Code.TheVariants as code
 use Rattle.alg_reader.specs.declared.raw.RawTerm.{RawTerm}
-use Rattle.alg_reader.specs.declared.raw.RawNode.{RawNode, more_of-RawTerm, Var, Int, Neg', Add', Sub', Mul', Div', Pow', Hom'}
-use Rattle.alg_reader.specs.RawTerms.{fold_under}
+use Rattle.alg_reader.specs.declared.raw.RawNode.{RawNode}
+use Rattle.alg_reader.proofs.RawViews.{AreRelated, related}
 use Rattle.alg_typing.specs.Faults.{fault_if}
-use Rattle.alg_typing.specs.Resolved.{number_at, term_of}
-use Rattle.alg_typing.specs.TermSorts.{is_field, differ, operator, sorted}
+use Rattle.alg_typing.specs.Resolved.{number_at, node_term, term_of}
+use Rattle.alg_typing.specs.TermSorts.{Sorted, is_field, differ, operator, node_sorted, sorted}
 use Rattle.alg_typing.proofs.Resolving.{resolved, sorted_under, own_resolved}
 use Rattle.alg_typing.proofs.SortedTerms.{KeepsRules}
 
@@ -58,74 +58,84 @@ no_cause true what at h = absurd (cc)
 no_cause false what at h = refl
 
 module _ (file : File) (text : List ℕ) (may : Bool) where
-  abbrev own : RawNode → ℕ → Option ℕ
-  own t k = own_sort file (resolved file text k t)
+  abbrev under : ℕ → RawNode → Sorted
+  under = sorted_under file text may
 
-  -- an operator whose parts have no faults
-  operator_clear : (head k l s : ℕ) (b : Bool) (t u : RawNode) → Agree (own t k) (own u l) →
-      (sorted_under file text may k t).faults (Some s) b ≡ [] →
-      (sorted_under file text may l u).faults (Some s) b ≡ [] →
-      (operator head (sorted_under file text may k t) (sorted_under file text may l u)).faults (Some s) b ≡ []
-  operator_clear head k l s b t u agree p q =
-      let left = sorted_under file text may k t in
-      let right = sorted_under file text may l u in
-      let apart : differ left.own right.own ≡ false =
-      ap (λ o. differ o right.own) (own_resolved file text may k t)
-      ∙ ap (differ (own t k)) (own_resolved file text may l u) ∙ never_differ (own t k) (own u l) agree in
-      ap (λ x. (x ++ left.faults (Some s) b) ++ right.faults (Some s) b)
-      (no_cause (differ left.own right.own) code.Sort head apart)
-      ∙ ap (λ x. x ++ right.faults (Some s) b) p ∙ q
+  abbrev term_under : ℕ → RawNode → Term
+  term_under = resolved file text
 
   -- where the morphisms over a term all go to fields, the test says so
   abbrev Passes : Bool → List ℕ → Type 0
   Passes b above = All (λ f. IsField (kind_of file (target_of file f))) above → b ≡ true
 
-  pub clear : (head : ℕ) (node : RawNode) (s : ℕ) (b : Bool) (above : List ℕ) → Passes b above →
-      EachNode HasExponent (resolved file text head node) →
-      EachNode (HasAgreeingParts file) (resolved file text head node) →
-      EachNode (HasFittingArgument file) (resolved file text head node) →
-      Divides file may s above (resolved file text head node) →
-      (sorted_under file text may head node).faults (Some s) b ≡ []
-  unfolding fold_under EachNode EachNodeAt
+  -- the node has no faults where its term keeps the rules
+  abbrev IsClear : Sorted → Term → Type 0
+  IsClear sorted t = (s : ℕ) (b : Bool) (above : List ℕ) → Passes b above → EachNode HasExponent t →
+      EachNode (HasAgreeingParts file) t → EachNode (HasFittingArgument file) t → Divides file may s above t →
+      sorted.faults (Some s) b ≡ []
+
+  module _ (head k l : ℕ) (t u : RawNode) (left : IsClear (under k t) (term_under k t))
+      (right : IsClear (under l u) (term_under l u)) (s : ℕ) (b : Bool) (above : List ℕ) (up : Passes b above) where
+    -- an operation on two parts whose terms keep the rules
+    both_clear : Unit {0} × EachNode HasExponent (term_under k t) × EachNode HasExponent (term_under l u) →
+        Agree (own_sort file (term_under k t)) (own_sort file (term_under l u))
+        × EachNode (HasAgreeingParts file) (term_under k t) × EachNode (HasAgreeingParts file) (term_under l u) →
+        Unit {0} × EachNode (HasFittingArgument file) (term_under k t)
+        × EachNode (HasFittingArgument file) (term_under l u) →
+        Unit {0} × Divides file may s above (term_under k t) × Divides file may s above (term_under l u) →
+        (operator head (under k t) (under l u)).faults (Some s) b ≡ []
+    both_clear e p a d =
+        let x = under k t in
+        let y = under l u in
+        let own = λ (k : ℕ) (t : RawNode). own_sort file (term_under k t) in
+        let apart : differ x.own y.own ≡ false =
+        ap (λ o. differ o y.own) (own_resolved file text may k t)
+        ∙ ap (differ (own k t)) (own_resolved file text may l u) ∙ never_differ (own k t) (own l u) p.0 in
+        ap (λ faults. (faults ++ x.faults (Some s) b) ++ y.faults (Some s) b)
+        (no_cause (differ x.own y.own) code.Sort head apart)
+        ∙ ap (λ faults. faults ++ y.faults (Some s) b) (left s b above up e.1 p.1 a.1 d.1)
+        ∙ right s b above up e.2 p.2 a.2 d.2
+
+  clear_nodes : AreRelated (node_sorted file text may) (node_term file text) IsClear
+  unfolding EachNode EachNodeAt
       Rattle.alg_terms.specs.declared.term.Term.TheBlock.hidden-the_row-Term-0 denote.Hole.Carrier.hidden
-  clear head (Var name) s b above up e p a d = refl
-  clear head (Int n) s b above up e p a d = refl
-  clear head (Neg' _ (more_of-RawTerm k t _)) s b above up e p a d = clear k t s b above up e.1 p.1 a.1 d.1
-  clear head (Add' _ (more_of-RawTerm k t _) _ (more_of-RawTerm l u _)) s b above up e p a d =
-      operator_clear head k l s b t u p.0 (clear k t s b above up e.1 p.1 a.1 d.1)
-      (clear l u s b above up e.2 p.2 a.2 d.2)
-  clear head (Sub' _ (more_of-RawTerm k t _) _ (more_of-RawTerm l u _)) s b above up e p a d =
-      operator_clear head k l s b t u p.0 (clear k t s b above up e.1 p.1 a.1 d.1)
-      (clear l u s b above up e.2 p.2 a.2 d.2)
-  clear head (Mul' _ (more_of-RawTerm k t _) _ (more_of-RawTerm l u _)) s b above up e p a d =
-      operator_clear head k l s b t u p.0 (clear k t s b above up e.1 p.1 a.1 d.1)
-      (clear l u s b above up e.2 p.2 a.2 d.2)
-  clear head (Div' _ (more_of-RawTerm k t _) _ (more_of-RawTerm l u _)) s b above up e p a d =
-      let both = operator head (sorted_under file text may k t) (sorted_under file text may l u) in
-      let free = none_fails may (is_field (kind_of file s)) b d.0.0 (field_passes (kind_of file s) d.0.1.0)
-      (up d.0.1.1) in
-      ap (λ x. x ++ both.faults (Some s) b) (no_cause _ code.Division head free)
-      ∙ operator_clear head k l s b t u p.0 (clear k t s b above up e.1 p.1 a.1 d.1)
-      (clear l u s b above up e.2 p.2 a.2 d.2)
-  clear head (Pow' _ (more_of-RawTerm k t _) n) s b above up e p a d =
-      let small = e.0 in
-      let low : nat_lt MAX_EXPONENT (unsigned_abs n.value) ≡ false = grind (arith, nat_tests) in
-      ap (λ x. x ++ (sorted_under file text may k t).faults (Some s) b)
-      (no_cause (nat_lt MAX_EXPONENT (unsigned_abs n.value)) code.Exponent n.at low)
-      ∙ clear k t s b above up e.1 p.1 a.1 d.1
-  clear head (Hom' name _ (more_of-RawTerm k t _)) s b above up e p a d =
-      let f = number_at file text name in
-      let source = Some (source_of file f) in
-      let inner = sorted_under file text may k t in
-      let below = b && is_field (kind_of file (target_of file f)) in
-      let fits : differ inner.own source ≡ false =
-      ap (λ o. differ o source) (own_resolved file text may k t) ∙ never_differ (own t k) source a.0 in
-      let P : ℕ → Type 0 = λ f. IsField (kind_of file (target_of file f)) in
-      let further : Passes below (f ∷ above) =
-      λ all. ap (λ c. c && is_field (kind_of file (target_of file f))) (up (All-tail P f above all))
-      ∙ field_passes (kind_of file (target_of file f)) (All-head P f above all) in
-      ap (λ x. x ++ inner.faults source below) (no_cause (differ inner.own source) code.Sort head fits)
-      ∙ clear k t (source_of file f) below (f ∷ above) further e.1 p.1 a.1 d.1
+  clear_nodes = record {
+    name = λ head span s b above up e p a d. refl;
+    literal = λ head n s b above up e p a d. refl;
+    opposite = λ head k t part s b above up e p a d. part s b above up e.1 p.1 a.1 d.1;
+    power = λ head k t n part s b above up e p a d.
+        let small = e.0 in
+        let low : nat_lt MAX_EXPONENT (unsigned_abs n.value) ≡ false = grind (arith, nat_tests) in
+        ap (λ x. x ++ (under k t).faults (Some s) b)
+        (no_cause (nat_lt MAX_EXPONENT (unsigned_abs n.value)) code.Exponent n.at low)
+        ∙ part s b above up e.1 p.1 a.1 d.1;
+    image = λ head k t span part s b above up e p a d.
+        let f = number_at file text span in
+        let source = Some (source_of file f) in
+        let inner = under k t in
+        let below = b && is_field (kind_of file (target_of file f)) in
+        let fits : differ inner.own source ≡ false =
+        ap (λ o. differ o source) (own_resolved file text may k t)
+        ∙ never_differ (own_sort file (term_under k t)) source a.0 in
+        let P : ℕ → Type 0 = λ f. IsField (kind_of file (target_of file f)) in
+        let further : Passes below (f ∷ above) =
+        λ all. ap (λ c. c && is_field (kind_of file (target_of file f))) (up (All-tail P f above all))
+        ∙ field_passes (kind_of file (target_of file f)) (All-head P f above all) in
+        ap (λ x. x ++ inner.faults source below) (no_cause (differ inner.own source) code.Sort head fits)
+        ∙ part (source_of file f) below (f ∷ above) further e.1 p.1 a.1 d.1;
+    sum = both_clear;
+    difference = both_clear;
+    product = both_clear;
+    quotient = λ head k l t u left right s b above up e p a d.
+        let free = none_fails may (is_field (kind_of file s)) b d.0.0 (field_passes (kind_of file s) d.0.1.0)
+        (up d.0.1.1) in
+        ap (λ x. x ++ (operator head (under k t) (under l u)).faults (Some s) b)
+        (no_cause _ code.Division head free)
+        ∙ both_clear head k l t u left right s b above up e p a (tt, d.1, d.2);
+  }
+
+  pub clear : (head : ℕ) (node : RawNode) → IsClear (under head node) (term_under head node)
+  clear = related _ _ _ clear_nodes
 
 -- a term that was read and resolves to a term at this final sort that keeps the rules
 pub term_clear : (file : File) (text : List ℕ) (may : Bool) (t : Term) (read : RawTerm) (s : ℕ) →
@@ -133,5 +143,4 @@ pub term_clear : (file : File) (text : List ℕ) (may : Bool) (t : Term) (read :
     (sorted file text may read).faults (Some s) true ≡ []
 term_clear file text may t read s is rules d =
     let (e, p, a) = subst (KeepsRules file) (sym is) rules in
-    clear file text may read.head read.node s true [] (λ all. refl) e p a
-    (subst (Divides file may s []) (sym is) d)
+    clear file text may read.head read.node s true [] (λ all. refl) e p a (subst (Divides file may s []) (sym is) d)
