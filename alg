@@ -20,7 +20,7 @@ if ! command -v rt > /dev/null; then
     echo "alg: not built yet, and the Rattle kit's command rt is not on the path" >&2
     exit 127
 fi
-echo "alg: running the sources before their proof, about half a minute; ./build proves and builds them" >&2
+echo "alg: running the sources before their proof, up to a minute; ./build proves and builds them" >&2
 log=$(mktemp) || exit 7
 trap 'rm -f "$log"' EXIT
 (cd "$crate" && rt try -- "$@") 2> "$log"
