@@ -7,7 +7,6 @@ use Rattle.alg_tokens.specs.declared.token.Refusal.{Refusal}
 use Rattle.alg_tokens.specs.declared.code.Code.TheVariants as code
 use Rattle.alg_reader.specs.declared.raw.RawTerm.{RawTerm}
 use Rattle.alg_reader.specs.declared.raw.RawNode.TheVariants.{Add, Sub, Mul, Div, Hom}
-use Rattle.alg_reader.specs.declared.raw.RawNode.{RawNode}
 use Rattle.alg_reader.specs.declared.raw.RawNode.TheOpen.{RawNode-F}
 use Rattle.alg_reader.specs.declared.raw.Span.{Span}
 use Rattle.alg_reader.specs.RawTerms.{fold_under}
@@ -19,8 +18,8 @@ use Rattle.alg_typing.specs.Resolved.{number_at}
 use Rattle.alg_typing.specs.TermSorts.{Sorted, differ, is_field, operator, quotient, sorted, node_sorted}
 use Rattle.alg_typing.proofs.Firsts.{first_of-append, earlier_of-assoc}
 use Rattle.alg_reader.proofs.Built.{fold_under-Add, fold_under-Sub, fold_under-Mul, fold_under-Div, fold_under-Hom}
-use Rattle.alg_reader.proofs.RawViews.{AreRelated, related}
 use Rattle.alg_typing.proofs.RawParts.{Joins}
+use Rattle.alg_typing.proofs.Resolving.{own_resolved}
 
 -- the node of a term is an operator other than a quotient
 abbrev pub Combines : RawTerm → RawTerm → RawTerm → Type 0
@@ -47,30 +46,9 @@ faults_joined head o o' p p' f g xs ys is_o is_p is_f is_g =
     ∙ sym (first_of-three (fault_if (differ o' p') code.Sort head) xs ys)
 
 module _ (file : File) (text : List ℕ) where
-  both_own : (may : Bool) (head k l : ℕ) (t u : RawNode) →
-      (fold_under (node_sorted file text may) k t).own ≡ (fold_under (node_sorted file text false) k t).own →
-      (fold_under (node_sorted file text may) l u).own ≡ (fold_under (node_sorted file text false) l u).own →
-      option_or (fold_under (node_sorted file text may) k t).own (fold_under (node_sorted file text may) l u).own
-      ≡ option_or (fold_under (node_sorted file text false) k t).own (fold_under (node_sorted file text false) l u).own
-  both_own may head k l t u left right = λ i. option_or (left i) (right i)
-
-  own_nodes : (may : Bool) →
-      AreRelated (node_sorted file text may) (node_sorted file text false) (λ s r. s.own ≡ r.own)
-  own_nodes may = record {
-    name = λ head span. refl;
-    literal = λ head n. refl;
-    opposite = λ head k t same. same;
-    power = λ head k t n same. same;
-    image = λ head k t span same. refl;
-    sum = both_own may;
-    difference = both_own may;
-    product = both_own may;
-    quotient = both_own may;
-  }
-
   -- whether a term may have quotients is no matter for its own sort
   pub sorted_own : (may : Bool) (t : RawTerm) → (sorted file text may t).own ≡ (sorted file text false t).own
-  sorted_own may t = related _ _ _ (own_nodes may) t.head t.node
+  sorted_own may t = own_resolved file text may t.head t.node ∙ sym (own_resolved file text false t.head t.node)
 
   sorted-combined : (may : Bool) (t l r : RawTerm) → Combines t l r →
       sorted file text may t ≡ operator t.head (sorted file text may l) (sorted file text may r)
