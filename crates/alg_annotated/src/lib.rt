@@ -17,8 +17,6 @@ mod progress;
 mod reading;
 mod rules;
 mod scope;
-#[cfg(test)]
-mod tests;
 
 pub use alg_reader::FileEnd;
 pub use annotated::Annotated;

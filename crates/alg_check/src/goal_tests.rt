@@ -20,7 +20,9 @@ fn field_report(alloc: Global, answer: Option<&Answer>) -> Result<GoalCheck, NoM
     requires { IfSome answer (λ a. HasNoCertificate a.now) }
 {
     let file = small_file(alloc)?;
-    check_goal(alloc, &file, 0, answer)
+    let report = check_goal(alloc, &file, 0, answer);
+    drop(file);
+    report
 }
 
 // The report on constants and a certificate for the goal by nsatz.
@@ -29,7 +31,10 @@ fn nsatz_report(alloc: Global, constants: Seq<i128>, cert: Cert) -> Result<GoalC
 {
     let file = small_file(alloc)?;
     let answer = Answer::Certified { constants, cert };
-    check_goal(alloc, &file, 1, Some(&answer))
+    let report = check_goal(alloc, &file, 1, Some(&answer));
+    drop(answer);
+    drop(file);
+    report
 }
 
 fn no(alloc: Global, n: u32, left: i128, right: i128) -> Result<Answer, MonoEnd>
@@ -39,36 +44,32 @@ fn no(alloc: Global, n: u32, left: i128, right: i128) -> Result<Answer, MonoEnd>
     Ok(Answer::No { at, left, right })
 }
 
-// 1/y and y have the numerators 1 and y^2 over y.
+/// Each row: the exponent of y and the coefficients of an answer no, and the report on it. 1/y and y
+/// have the numerators 1 and y^2 over y.
+const NO: &[(u32, i128, i128, GoalCheck)] = &[
+    (2, 0, 1, GoalCheck::OkOther),
+    (2, 0, 2, GoalCheck::Bad { at: 0 }),
+    (2, 1, 0, GoalCheck::Bad { at: 0 }),
+    (1, 0, 1, GoalCheck::Bad { at: 0 }),
+];
+
 #[test]
 fn a_goal_by_field_is_decided_anew(rt: HostRuntime) -> Result<(), Fail> {
     let alloc = rt.alloc();
-    for (n, left, right, want) in [
-        (2, 0, 1, GoalCheck::OkOther),
-        (2, 0, 2, GoalCheck::Bad { at: 0 }),
-        (2, 1, 0, GoalCheck::Bad { at: 0 }),
-        (1, 0, 1, GoalCheck::Bad { at: 0 }),
-    ] {
-        let answer = no(alloc, n, left, right)?;
-        assert_eq!(rt;
-            field_report(alloc, Some(&answer))?,
-            want,
-            "no at y^{n} : {left} and {right}"
-        );
+    for (n, left, right, want) in NO {
+        let answer = no(alloc, *n, *left, *right)?;
+        let report = field_report(alloc, Some(&answer))?;
+        assert_eq!(rt; report, *want, "no at y^{n} : {left} and {right}");
+        drop(answer);
     }
     let proved = Answer::Proved {
         conditions: Seq::from_vec(Vec::new(alloc)),
     };
-    assert_eq!(rt;
-        field_report(alloc, Some(&proved))?,
-        GoalCheck::Bad { at: 0 },
-        "proved"
-    );
-    assert_eq!(rt;
-        field_report(alloc, None)?,
-        GoalCheck::Unchecked,
-        "no answer"
-    );
+    let report = field_report(alloc, Some(&proved))?;
+    assert_eq!(rt; report, GoalCheck::Bad { at: 0 }, "proved");
+    drop(proved);
+    let report = field_report(alloc, None)?;
+    assert_eq!(rt; report, GoalCheck::Unchecked, "no answer");
     Ok(())
 }
 
@@ -86,48 +87,51 @@ fn cert(alloc: Global, power: u32, a: i128, b: i128, d: i128) -> Result<Cert, No
     })
 }
 
-// The goal's difference is that of its hypothesis. Each row: the printed constants, and a power and
-// a, b and d of one step.
+/// The goal's difference is that of its hypothesis. Each row: the printed constants, and a power and
+/// a, b and d of one step.
+const CERTIFICATES: &[(&str, &[i128], u32, i128, i128, i128, GoalCheck)] = &[
+    ("a proof", &[], 1, 1, 1, 1, GoalCheck::OkProved),
+    ("with a factor", &[2], 1, 2, 2, 1, GoalCheck::OkProved),
+    (
+        "a constant is missing",
+        &[],
+        1,
+        2,
+        2,
+        1,
+        GoalCheck::Bad { at: 0 },
+    ),
+    (
+        "one is too many",
+        &[2, 3],
+        1,
+        2,
+        2,
+        1,
+        GoalCheck::Bad { at: 0 },
+    ),
+    ("no power", &[], 0, 1, 1, 1, GoalCheck::Bad { at: 0 }),
+    (
+        "a power above the goal's",
+        &[],
+        2,
+        1,
+        1,
+        1,
+        GoalCheck::Bad { at: 0 },
+    ),
+    ("a remainder", &[], 1, 2, 1, 1, GoalCheck::Bad { at: 2 }),
+    ("a bad step", &[], 1, 1, 1, 0, GoalCheck::Bad { at: 1 }),
+];
+
 #[test]
 fn a_certificate_is_tried_with_its_constants(rt: HostRuntime) -> Result<(), Fail> {
     let alloc = rt.alloc();
-    for (shown, constants, power, a, b, d, want) in [
-        ("a proof", &[][..], 1, 1, 1, 1, GoalCheck::OkProved),
-        ("with a factor", &[2][..], 1, 2, 2, 1, GoalCheck::OkProved),
-        (
-            "a constant is missing",
-            &[][..],
-            1,
-            2,
-            2,
-            1,
-            GoalCheck::Bad { at: 0 },
-        ),
-        (
-            "one is too many",
-            &[2, 3][..],
-            1,
-            2,
-            2,
-            1,
-            GoalCheck::Bad { at: 0 },
-        ),
-        ("no power", &[][..], 0, 1, 1, 1, GoalCheck::Bad { at: 0 }),
-        (
-            "a power above the goal's",
-            &[][..],
-            2,
-            1,
-            1,
-            1,
-            GoalCheck::Bad { at: 0 },
-        ),
-        ("a remainder", &[][..], 1, 2, 1, 1, GoalCheck::Bad { at: 2 }),
-        ("a bad step", &[][..], 1, 1, 1, 0, GoalCheck::Bad { at: 1 }),
-    ] {
-        let constants = Seq::from_vec(Vec::from_slice(alloc, constants)?);
-        let cert = cert(alloc, power, a, b, d)?;
-        assert_eq!(rt; nsatz_report(alloc, constants, cert)?, want, "{shown}");
+    for (shown, constants, power, a, b, d, want) in CERTIFICATES {
+        let constants = Seq::from_vec(Vec::from_slice(alloc, *constants)?);
+        let cert = cert(alloc, *power, *a, *b, *d)?;
+        let report = nsatz_report(alloc, constants, cert)?;
+        assert_eq!(rt; report, *want, "{shown}");
     }
     Ok(())
 }
@@ -143,11 +147,10 @@ fn what_breaks_a_rule_is_reported(rt: HostRuntime) -> Result<(), Fail> {
             goal: Poly::constant(alloc, 1 << 62)?.times(alloc, &power)?,
         };
         let cert = cert(alloc, 3, 1, 1, 1)?;
-        assert_eq!(rt;
-            cert_report(alloc, &prepared, &[], &cert, true)?,
-            want,
-            "x^{n}"
-        );
+        let report = cert_report(alloc, &prepared, &[], &cert, true)?;
+        assert_eq!(rt; report, want, "x^{n}");
+        drop(cert);
+        drop(prepared);
     }
     for (stop, want) in [
         (Stop::Atoms, GoalCheck::Atoms),
@@ -169,24 +172,26 @@ fn proved(alloc: Global, conditions: &[u32]) -> Result<Answer, NoMemory>
     Ok(Answer::Proved { conditions: terms })
 }
 
-// Each row: the variables that are conditions of the goal's own answer, those of one that is given,
-// and the report.
+/// Each row: the variables that are conditions of the goal's own answer, those of one that is given,
+/// and the report.
+const COMPARED: &[(&[u32], &[u32], GoalCheck)] = &[
+    (&[], &[], GoalCheck::OkProved),
+    (&[0, 1], &[0, 1], GoalCheck::OkProved),
+    (&[0, 1], &[0], GoalCheck::Bad { at: 0 }),
+    (&[0], &[0, 1], GoalCheck::Bad { at: 0 }),
+    (&[0, 1], &[1, 0], GoalCheck::Bad { at: 0 }),
+];
+
 #[test]
 fn answers_are_compared_as_values(rt: HostRuntime) -> Result<(), Fail> {
     let alloc = rt.alloc();
-    for (own, given, want) in [
-        (&[][..], &[][..], GoalCheck::OkProved),
-        (&[0, 1][..], &[0, 1][..], GoalCheck::OkProved),
-        (&[0, 1][..], &[0][..], GoalCheck::Bad { at: 0 }),
-        (&[0][..], &[0, 1][..], GoalCheck::Bad { at: 0 }),
-        (&[0, 1][..], &[1, 0][..], GoalCheck::Bad { at: 0 }),
-    ] {
-        let answer = proved(alloc, own)?;
-        assert_eq!(rt;
-            report(&answer, &proved(alloc, given)?),
-            want,
-            "{own:?} and {given:?}"
-        );
+    for (own, given, want) in COMPARED {
+        let own_answer = proved(alloc, *own)?;
+        let given_answer = proved(alloc, *given)?;
+        let told = report(&own_answer, &given_answer);
+        assert_eq!(rt; told, *want, "{own:?} and {given:?}");
+        drop(own_answer);
+        drop(given_answer);
     }
     assert_eq!(rt; report(&Answer::Range, &Answer::Range), GoalCheck::OkOther);
     assert_eq!(rt;

@@ -4,6 +4,7 @@ use crate::{Cert, CertAnswer, GoalStep, Line, Overrun, Poly, check_cert};
 use alg_mono::{Mono, NoMemory};
 use alg_terms::Seq;
 use std::alloc::Global;
+use std::process::Abort;
 use std::test::Fail;
 
 // c*x^n
@@ -189,54 +190,58 @@ const ROWS: &[Row] = &[
     },
 ];
 
-#[test]
-fn a_certificate_is_good_or_has_its_first_breach(rt: HostRuntime) -> Result<(), Fail> {
-    let alloc = rt.alloc();
+// What the certificate of a row comes to, over the hypotheses 2*x and 3*x for the goal x.
+fn answer_to(rt: &impl Abort, alloc: Global, row: &Row) -> Result<CertAnswer, Overrun> {
     let hyps: &[Poly] = &[multiple(alloc, 2, 1)?, multiple(alloc, 3, 1)?];
     let goal = multiple(alloc, 1, 1)?;
+    let lines = lines(alloc, row.lines)?;
+    let steps = steps(alloc, row.steps)?;
+    let cert = Cert {
+        power: row.power,
+        lines,
+        steps,
+    };
+    assert!(rt; hyps.len() < 9);
+    assert!(rt; cert.lines.items().len() < 9);
+    assert!(rt; cert.steps.items().len() < 9);
+    let answer = check_cert(alloc, hyps, &goal, &cert);
+    drop(cert);
+    drop(goal);
+    answer
+}
+
+#[test]
+fn a_certificate_is_good_or_has_its_first_breach(rt: HostRuntime) -> Result<(), Fail> {
     for row in ROWS {
-        let lines = lines(alloc, row.lines)?;
-        let steps = steps(alloc, row.steps)?;
-        assert!(rt; row.lines.len() < 9 && row.steps.len() < 9);
-        let cert = Cert {
-            power: row.power,
-            lines,
-            steps,
-        };
-        assert!(rt; hyps.len() < 9);
-        assert!(rt; cert.lines.items().len() < 9);
-        assert!(rt; cert.steps.items().len() < 9);
-        assert_eq!(rt;
-            check_cert(alloc, hyps, &goal, &cert),
-            Ok(row.want),
-            "{}",
-            row.shows
-        );
+        let answer = answer_to(&rt, rt.alloc(), row)?;
+        assert_eq!(rt; answer, row.want, "{}", row.shows);
     }
     Ok(())
 }
 
+/// Each row: c, n and a power, and what no lines and no steps come to for the goal c*x^n.
+const POWERS: &[(u64, u32, u32, Result<CertAnswer, Overrun>)] = &[
+    (1 << 62, 1, 2, Ok(CertAnswer::Bad(1))),
+    (1 << 62, 1, 3, Err(Overrun::Range)),
+    (1 << 62, 900, 3, Err(Overrun::Range)),
+    (1, 501, 2, Err(Overrun::Degree)),
+    (1, 501, 17, Ok(CertAnswer::Bad(0))),
+];
+
 #[test]
 fn a_power_of_the_goal_keeps_the_limits(rt: HostRuntime) -> Result<(), Fail> {
     let alloc = rt.alloc();
-    for (c, n, power, want) in [
-        (1 << 62, 1, 2, Ok(CertAnswer::Bad(1))),
-        (1 << 62, 1, 3, Err(Overrun::Range)),
-        (1 << 62, 900, 3, Err(Overrun::Range)),
-        (1, 501, 2, Err(Overrun::Degree)),
-        (1, 501, 17, Ok(CertAnswer::Bad(0))),
-    ] {
-        let goal = multiple(alloc, c, n)?;
+    for (c, n, power, want) in POWERS {
+        let goal = multiple(alloc, *c, *n)?;
         let cert = Cert {
-            power,
+            power: *power,
             lines: Seq::from_vec(Vec::new(alloc)),
             steps: Seq::from_vec(Vec::new(alloc)),
         };
-        assert_eq!(rt;
-            check_cert(alloc, &[], &goal, &cert),
-            want,
-            "{c}*x^{n} to {power}"
-        );
+        let answer = check_cert(alloc, &[], &goal, &cert);
+        assert_eq!(rt; answer, *want, "{c}*x^{n} to {power}");
+        drop(cert);
+        drop(goal);
     }
     Ok(())
 }

@@ -18,8 +18,6 @@ pub mod laws;
 mod lists;
 mod multiply;
 mod rules;
-#[cfg(test)]
-mod tests;
 
 pub use alg_horner::HornerPoly;
 pub use alg_reify::{Mono, NoMemory, Stop};

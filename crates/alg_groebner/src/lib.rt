@@ -22,6 +22,3 @@ pub use alg_mono::{Mono, NoMemory, Overrun};
 pub use alg_poly::Poly;
 pub use decide::{Verdict, search};
 pub use pruning::prune;
-
-#[cfg(test)]
-mod tests;

@@ -19,8 +19,6 @@ mod product;
 mod scale;
 mod sum;
 mod terms;
-#[cfg(test)]
-mod tests;
 mod times;
 
 pub use alg_mono::{Mono, NoMemory, Overrun};

@@ -47,41 +47,49 @@ fn goal_text(alloc: Global, file: &File, number: usize) -> Result<String, NoMemo
     }
 }
 
-// Each row: the number of a goal, and the goal.
+/// Each row: the number of a goal, and the goal.
+const TURNS: &[(usize, &str)] = &[
+    (0, "(x+(0*y))^2 = ((x^2+((0*x)*y))+(0*y^2)) ByRing"),
+    (1, "(x+(1*y))^2 = (x^2+(1*y^2)) ByRing"),
+    (2, "((x/(x+2))+(2/(x+2))) = 1 ByField"),
+    (3, "(x+(3*y))^2 = ((x^2+((6*x)*y))+(9*y^2)) ByRing"),
+    (4, "(x+(4*y))^2 = (x^2+(16*y^2)) ByRing"),
+    (8, "((x/(x+8))+(8/(x+8))) = 1 ByField"),
+    (9, "(x+(9*y))^2 = ((x^2+((18*x)*y))+(81*y^2)) ByRing"),
+    (10, "none"),
+];
+
 #[test]
 fn goals_take_turns(rt: HostRuntime) -> Result<(), Fail> {
     let file = load_file(rt.alloc(), 10)?;
-    for (number, want) in [
-        (0, "(x+(0*y))^2 = ((x^2+((0*x)*y))+(0*y^2)) ByRing"),
-        (1, "(x+(1*y))^2 = (x^2+(1*y^2)) ByRing"),
-        (2, "((x/(x+2))+(2/(x+2))) = 1 ByField"),
-        (3, "(x+(3*y))^2 = ((x^2+((6*x)*y))+(9*y^2)) ByRing"),
-        (4, "(x+(4*y))^2 = (x^2+(16*y^2)) ByRing"),
-        (8, "((x/(x+8))+(8/(x+8))) = 1 ByField"),
-        (9, "(x+(9*y))^2 = ((x^2+((18*x)*y))+(81*y^2)) ByRing"),
-        (10, "none"),
-    ] {
-        let text = goal_text(rt.alloc(), &file, number)?;
-        assert_eq!(rt; text.as_str(), want, "goal {number} of 10");
+    for (number, want) in TURNS {
+        let text = goal_text(rt.alloc(), &file, *number)?;
+        assert_eq!(rt; text.as_str(), *want, "goal {number} of 10");
+        drop(text);
     }
+    drop(file);
     Ok(())
 }
+
+const LAST: &[(usize, &str)] = &[
+    (9_998, "((x/(x+9998))+(9998/(x+9998))) = 1 ByField"),
+    (
+        9_999,
+        "(x+(9999*y))^2 = ((x^2+((19998*x)*y))+(99980001*y^2)) ByRing",
+    ),
+    (10_000, "none"),
+];
 
 #[test]
 fn the_greatest_file_is_given(rt: HostRuntime) -> Result<(), Fail> {
     limits();
     let file = load_file(rt.alloc(), 10_000)?;
-    for (number, want) in [
-        (9_998, "((x/(x+9998))+(9998/(x+9998))) = 1 ByField"),
-        (
-            9_999,
-            "(x+(9999*y))^2 = ((x^2+((19998*x)*y))+(99980001*y^2)) ByRing",
-        ),
-        (10_000, "none"),
-    ] {
-        let text = goal_text(rt.alloc(), &file, number)?;
-        assert_eq!(rt; text.as_str(), want, "goal {number} of 10000");
+    for (number, want) in LAST {
+        let text = goal_text(rt.alloc(), &file, *number)?;
+        assert_eq!(rt; text.as_str(), *want, "goal {number} of 10000");
+        drop(text);
     }
+    drop(file);
     Ok(())
 }
 

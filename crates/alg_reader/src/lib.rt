@@ -26,8 +26,3 @@ pub use raw::{
     RawUse, Span,
 };
 pub use reading::{FileEnd, Raw, read_statement};
-
-#[cfg(test)]
-mod place_tests;
-#[cfg(test)]
-mod tests;

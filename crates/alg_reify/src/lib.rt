@@ -17,8 +17,6 @@ pub mod laws;
 mod making;
 mod stop;
 mod tables;
-#[cfg(test)]
-mod tests;
 
 pub use alg_poly::{Mono, Overrun, Poly};
 pub use alg_terms::NoMemory;

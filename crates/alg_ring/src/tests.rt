@@ -87,26 +87,38 @@ fn told(decision: RingDecision) -> Option<(u32, i128, i128)> {
     }
 }
 
-// Each row: k, n, c and d, and the answer to (k*x)^n*x + c = (k*x)^n*x + d.
+/// The greatest constant beside `2^126` within the range.
+const MOST: i128 = i128::MAX - (1 << 126);
+
+/// Each row: k, n, c and d, and the answer to (k*x)^n*x + c = (k*x)^n*x + d.
+const EQUATIONS: &[(
+    u64,
+    u32,
+    i128,
+    i128,
+    Result<Option<(u32, i128, i128)>, Stop>,
+)] = &[
+    (1, 1, 3, 3, Ok(None)),
+    (1, 1, 3, 4, Ok(Some((0, 3, 4)))),
+    (0, 1, 0, 4, Ok(Some((0, 0, 4)))),
+    (1, 999, 0, 0, Ok(None)),
+    (1, 1000, 0, 0, Err(Stop::Degree)),
+    (2, 126, MOST, MOST, Ok(None)),
+    (2, 126, MOST + 1, 0, Err(Stop::Range)),
+    (2, 126, 0, MOST + 1, Err(Stop::Range)),
+    (2, 1000, 0, 0, Err(Stop::Range)),
+];
+
 #[test]
 fn an_equation_is_proved_or_refuted_within_the_limits(rt: HostRuntime) -> Result<(), Fail> {
     let file = one_variable(rt.alloc())?;
-    let most = i128::MAX - (1 << 126);
-    for (k, n, c, d, want) in [
-        (1, 1, 3, 3, Ok(None)),
-        (1, 1, 3, 4, Ok(Some((0, 3, 4)))),
-        (0, 1, 0, 4, Ok(Some((0, 0, 4)))),
-        (1, 999, 0, 0, Ok(None)),
-        (1, 1000, 0, 0, Err(Stop::Degree)),
-        (2, 126, most, most, Ok(None)),
-        (2, 126, most + 1, 0, Err(Stop::Range)),
-        (2, 126, 0, most + 1, Err(Stop::Range)),
-        (2, 1000, 0, 0, Err(Stop::Range)),
-    ] {
-        let goal = equation(rt.alloc(), &file, k, n, c, d)?;
-        let decision = decide_ring(rt.alloc(), &file, &goal);
-        assert_eq!(rt; decision.map(told), want, "k {k}, n {n}, c {c}, d {d}");
+    for (k, n, c, d, want) in EQUATIONS {
+        let goal = equation(rt.alloc(), &file, *k, *n, *c, *d)?;
+        let decision = decide_ring(rt.alloc(), &file, &goal).map(told);
+        assert_eq!(rt; decision, *want, "k {k}, n {n}, c {c}, d {d}");
+        drop(goal);
     }
+    drop(file);
     Ok(())
 }
 

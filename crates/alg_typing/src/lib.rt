@@ -7,8 +7,6 @@
 mod adding;
 mod answer_parts;
 mod answer_terms;
-#[cfg(test)]
-mod answer_tests;
 mod declaration;
 mod declared;
 mod faults;
@@ -22,11 +20,9 @@ mod scope;
 mod sort_faults;
 mod sorts;
 mod terms;
-#[cfg(test)]
-mod tests;
 
 pub use alg_reader::FileEnd;
 pub use declaration::Declaration;
 pub use declared::Declared;
 pub use faults::{earlier, fault_where};
-pub use reading::read_file;
+pub use reading::{read_declared, read_file};

@@ -44,7 +44,7 @@ fn read_text(alloc: Global, text: &str) -> Result<File, FileEnd>
 
 /// The file that a text is, with the table of its names, or its first fault.
 #[tactic(none)]
-pub(crate) fn read_declared(alloc: Global, text: &str) -> Result<Declared, FileEnd>
+pub fn read_declared(alloc: Global, text: &str) -> Result<Declared, FileEnd>
     requires { length text.now ≤ MAX_TEXT }
     ensures ok { IfOk result (λ file. ReadsFile text.now 0 no_statements (Ok file)) }
     ensures refused { IfErr result
