@@ -11,7 +11,7 @@ use Rattle.alg_meaning.specs.TermOutcome.{term_outcome}
 use Rattle.alg_reify.specs.declared.stop.Stop.{Stop}
 use Rattle.alg_reify.specs.Answers.{IsRingAnswer, ring_answer}
 use Rattle.alg_reify.specs.RingVerdict.{RingVerdict, ComesTo, own_table}
-use Rattle.alg_reify.specs.Stops.{Stops}
+use Rattle.alg_reify.specs.Stops.{StopsWith}
 use Rattle.alg_reify.proofs.Made.{made}
 use Rattle.alg_reify.proofs.RingSides.{equal_sides, different_sides}
 use Rattle.alg_reify.proofs.Verdicts.{one_ring_verdict}
@@ -49,7 +49,7 @@ module _ (file : File) (e : Equation) where
 
   -- they could not be made
   pub ring_stopped : (stop : Stop) →
-      Stops (own_table file e) (first_breach (term_outcome e.left) (term_outcome e.right)) stop →
+      StopsWith (own_table file e) (first_breach (term_outcome e.left) (term_outcome e.right)) stop →
       (answer : Answer) → IsStopped stop answer → IsRingAnswer file e answer
   ring_stopped Stop.Atoms h answer is = (RingVerdict.Atoms, h, is)
   ring_stopped Stop.Range h answer is = (RingVerdict.Range, h, is)

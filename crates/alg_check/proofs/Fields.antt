@@ -9,7 +9,7 @@ use Rattle.alg_mono.specs.NumberedPolynomials.{Polynomial}
 use Rattle.alg_lines.specs.declared.answer.Answer.{Answer}
 use Rattle.alg_reify.specs.Answers.{IsFieldAnswer, field_answer}
 use Rattle.alg_reify.specs.declared.ends.FractionEnd.{FractionEnd}
-use Rattle.alg_reify.specs.Ends.{TellsEnd}
+use Rattle.alg_reify.specs.Ends.{EndsFractionWith}
 use Rattle.alg_reify.specs.FieldVerdict.{FieldVerdict, sides_outcome}
 use Rattle.alg_reify.specs.MadeSides.{AreCleared}
 use Rattle.alg_reify.specs.RingVerdict.{own_table}
@@ -37,7 +37,7 @@ module _ (file : File) (e : Equation) where
     field_compared all p q are Answer.Degree h = absurd h
 
     -- they could not be made
-    pub field_ended : (end : FractionEnd) → TellsEnd end (sides_outcome e) → (answer : Answer) →
+    pub field_ended : (end : FractionEnd) → EndsFractionWith end (sides_outcome e) → (answer : Answer) →
         IsEnded end answer → IsFieldAnswer file e answer
     field_ended (FractionEnd.Refused Overrun.Range) told answer is = (FieldVerdict.Range, (small, told), is)
     field_ended (FractionEnd.Refused Overrun.Degree) told answer is = (FieldVerdict.Degree, (small, told), is)

@@ -5,7 +5,7 @@ use Rattle.std.proofs.Math.Seq.{split_at}
 use Rattle.std.proofs.lemmas.List.{length-take-le}
 use Rattle.alg_mono.specs.NumberedPolynomials.{Polynomial, power_of}
 use Rattle.alg_mono.specs.Outcomes.{power_outcome}
-use Rattle.alg_mono.specs.Refusals.{Tells}
+use Rattle.alg_mono.specs.Refusals.{RefusesWith}
 use Rattle.alg_mono.specs.declared.ends.Overrun.{Overrun}
 use Rattle.alg_lines.specs.declared.cert.Line.{Line}
 use Rattle.alg_lines.specs.declared.cert.GoalStep.{GoalStep}
@@ -48,7 +48,7 @@ breaks_at_step all first steps n i s remainder h at lead bad = record {
 module _ (hyps : List Polynomial) (g : Polynomial) (cert : Cert) where
   -- a power that breaks a rule
   pub refused : HasPower hyps g cert → (r : Result Polynomial Overrun) →
-      IfErr r (λ e. Tells e (power_outcome g cert.power)) → IfErr r (Refuses hyps g cert)
+      IfErr r (λ e. RefusesWith e (power_outcome g cert.power)) → IfErr r (Refuses hyps g cert)
   refused power (Ok p) t = tt
   refused power (Err Overrun.Range) t = too_great power t
   refused power (Err Overrun.Degree) t = too_high power t

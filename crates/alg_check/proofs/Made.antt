@@ -3,7 +3,7 @@ use Rattle.std.specs.Prelude.{◌≡◌, List, [], Option, Some, None, ℤ, pos,
 use Rattle.std.proofs.Common.{sym, subst, ◌∙◌}
 use Rattle.alg_mono.specs.Mono.{Monomial}
 use Rattle.alg_mono.specs.Outcomes.{Outcome, combine_outcome}
-use Rattle.alg_mono.specs.Refusals.{Tells}
+use Rattle.alg_mono.specs.Refusals.{RefusesWith}
 use Rattle.alg_mono.specs.declared.ends.Overrun.{Overrun}
 use Rattle.alg_mono.specs.NumberedPolynomials.{Polynomial}
 use Rattle.alg_lines.specs.Lines.{line_at, combination, line_combination, step_combination}
@@ -21,12 +21,12 @@ if_ok (Err e) f h = tt
 pub makes_any : (a c : ℤ) (m : Monomial) (p : Polynomial) (b d : ℤ) (n : Monomial) (q : Polynomial) →
     IsFactor a p c → IsFactor b q d → (r : Result Polynomial Overrun) →
     IfOk r (λ x. x ≡ combination c m p d n q) → IfOk r (λ x. combine_outcome c m p d n q ≡ Outcome.Fine) →
-    IfErr r (λ e. Tells e (combine_outcome c m p d n q)) →
+    IfErr r (λ e. RefusesWith e (combine_outcome c m p d n q)) →
     Makes (combine_outcome a m p b n q) (combination a m p b n q) r
 makes_any a c m p b d n q left right (Ok x) is fine told =
     (is ∙ combination_same a c m p b d n q left right, sym (outcome_same a c m p b d n q left right) ∙ fine)
 makes_any a c m p b d n q left right (Err e) is fine told =
-    subst (Tells e) (outcome_same a c m p b d n q left right) told
+    subst (RefusesWith e) (outcome_same a c m p b d n q left right) told
 
 module _ (lines : List Polynomial) (l : Line) (first : IsOneOf lines l.i) (second : IsOneOf lines l.j) where
   as_line : (o : Option Polynomial) →

@@ -6,13 +6,13 @@ use Rattle.alg_mono.specs.declared.ends.Overrun.{Overrun}
 use Rattle.alg_mono.specs.NumberedPolynomials.{Polynomial}
 use Rattle.alg_mono.specs.Outcomes.{Outcome, outcome, has_zero, norm_product}
 use Rattle.alg_mono.specs.Polynomials.{poly_degree}
-use Rattle.alg_mono.specs.Refusals.{Tells}
+use Rattle.alg_mono.specs.Refusals.{RefusesWith}
 use Rattle.alg_check.specs.declared.bounds.Size.{Size}
 
 -- nothing is refused where no rule is broken, and else the broken rule is told
 abbrev pub Fits : Outcome → Result (Unit {0}) Overrun → Type 0
 Fits outcome (Ok _) = outcome ≡ Outcome.Fine
-Fits outcome (Err e) = Tells e outcome
+Fits outcome (Err e) = RefusesWith e outcome
 
 -- the least number over the limit on norms, and on degrees
 abbrev pub norm_end : ℕ

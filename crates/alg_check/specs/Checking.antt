@@ -1,7 +1,7 @@
 -- What trying a certificate answers, and what its parts do.
 use Rattle.std.specs.Prelude.{◌≡◌, ℕ, ℤ, ◌+◌, List, [], ◌∷◌, ◌++◌, Option, Some, None, Result, Ok, Err, length}
 use Rattle.alg_mono.specs.Outcomes.{Outcome}
-use Rattle.alg_mono.specs.Refusals.{Tells}
+use Rattle.alg_mono.specs.Refusals.{RefusesWith}
 use Rattle.alg_mono.specs.declared.ends.Overrun.{Overrun}
 use Rattle.std.specs.Ordering.{nat_cmp}
 use Rattle.alg_mono.specs.Numbers.{integers}
@@ -35,7 +35,7 @@ IsFactor c (e ∷ p) a = a ≡ c
 -- the sum is made where no rule is broken, and else the broken rule is told
 abbrev pub Makes : Outcome → Polynomial → Result Polynomial Overrun → Type 0
 Makes outcome sum (Ok p) = (p ≡ sum) × (outcome ≡ Outcome.Fine)
-Makes outcome sum (Err e) = Tells e outcome
+Makes outcome sum (Err e) = RefusesWith e outcome
 
 -- the polynomial that d times is the sum, or none where making the sum breaks a rule or d does not divide it
 abbrev pub IsQuotient : Outcome → Polynomial → ℤ → Option Polynomial → Type 0

@@ -8,7 +8,7 @@ use Rattle.alg_terms.specs.declared.goals.Equation.{Equation}
 use Rattle.alg_terms.specs.declared.goals.Use.{Use}
 use Rattle.alg_mono.specs.declared.ends.Overrun.{Overrun}
 use Rattle.alg_mono.specs.Outcomes.{Outcome}
-use Rattle.alg_mono.specs.Refusals.{Tells}
+use Rattle.alg_mono.specs.Refusals.{RefusesWith}
 use Rattle.alg_reify.specs.Preparing.{PreparesTo, difference_outcome, is_nonzero, prepared_goal, prepared_hyps, used_difference, used_equation}
 use Rattle.alg_check.specs.declared.preparing.Prepared.{Prepared}
 use Rattle.alg_check.specs.declared.preparing.Used.{Used}
@@ -30,4 +30,4 @@ module _ (file : File) (atoms : List Atom) (u : Use) where
   -- so it did, or the rule that it breaks is told
   abbrev pub AddsUse : Used → Used → Result (Unit {0}) Overrun → Type 0
   AddsUse before after (Ok _) = HasAdded before after
-  AddsUse before after (Err end) = Tells end (difference_outcome u.path (used_equation file u))
+  AddsUse before after (Err end) = RefusesWith end (difference_outcome u.path (used_equation file u))

@@ -5,7 +5,7 @@ ghost use Rattle.alg_mono.specs.Monomials.{MAX_DEGREE};
 ghost use Rattle.alg_mono.specs.NumberedPolynomials.{product_of};
 ghost use Rattle.alg_mono.specs.Outcomes.{Outcome, norm_product, product_outcome};
 ghost use Rattle.alg_mono.specs.Polynomials.{MAX, norm, poly_degree};
-ghost use Rattle.alg_mono.specs.Refusals.{Tells};
+ghost use Rattle.alg_mono.specs.Refusals.{RefusesWith};
 ghost use Rattle.alg_meaning.specs.FractionRules.{over_outcome};
 ghost use Rattle.alg_reify.specs.FactorMaps.{product};
 ghost use Rattle.alg_reify.specs.Making.{Gives};
@@ -49,7 +49,7 @@ fn times_all(alloc: Global, first: Poly, rest: &[Poly]) -> Result<Poly, NoMemory
 pub(crate) fn product(alloc: Global, first: Poly, rest: &[Poly]) -> Result<Poly, Overrun>
     ensures product { IfOk result (λ r. r ≡ times_each first rest.now) }
     ensures fine { IfOk result (λ r. product_outcome (first ∷ rest.now) ≡ Outcome.Fine) }
-    ensures refused { IfErr result (λ e. Tells e (product_outcome (first ∷ rest.now))) }
+    ensures refused { IfErr result (λ e. RefusesWith e (product_outcome (first ∷ rest.now))) }
 {
     let size = size_over(&first, rest);
     if size.norm == 0 {

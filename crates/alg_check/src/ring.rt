@@ -8,7 +8,7 @@ ghost use Rattle.alg_meaning.specs.TermOutcome.{term_outcome};
 ghost use Rattle.alg_reify.specs.Answers.{IsRingAnswer};
 ghost use Rattle.alg_reify.specs.Numbered.{numbered};
 ghost use Rattle.alg_reify.specs.RingVerdict.{ComesTo, own_table};
-ghost use Rattle.alg_reify.specs.Stops.{Stops};
+ghost use Rattle.alg_reify.specs.Stops.{StopsWith};
 
 use crate::comparing::{compared, stopped};
 use crate::{NoMemory, Poly};
@@ -26,7 +26,7 @@ fn sides(alloc: Global, file: &File, equation: &Equation) -> Result<(Poly, Poly)
     ensures right { IfOk result (λ s.
         s.1 ≡ numbered (own_table file.now equation.now) (poly_of equation.now.right)) }
     ensures fine { IfOk result (λ s. ComesTo file.now equation.now Outcome.Fine) }
-    ensures stop { IfErr result (Stops (own_table file.now equation.now)
+    ensures stop { IfErr result (StopsWith (own_table file.now equation.now)
         (first_breach (term_outcome equation.now.left) (term_outcome equation.now.right))) }
 {
     let table = atoms_of(alloc, file, equation, &[])?;

@@ -3,7 +3,7 @@
 ghost use Rattle.std.specs.Prelude.{◌≡◌};
 ghost use Rattle.alg_mono.specs.NumberedPolynomials.{Polynomial};
 ghost use Rattle.alg_mono.specs.Outcomes.{Outcome};
-ghost use Rattle.alg_mono.specs.Refusals.{Tells};
+ghost use Rattle.alg_mono.specs.Refusals.{RefusesWith};
 ghost use Rattle.alg_meaning.specs.FractionRules.{worse};
 ghost use Rattle.alg_reify.specs.Making.{Gives};
 ghost use Rattle.alg_check.specs.Bounds.{Fits};
@@ -12,7 +12,7 @@ use crate::{Overrun, Poly};
 
 /// What is told where both of two things are refused.
 fn worse(end: Overrun, other: Overrun) -> Overrun
-    ensures { (o u : Outcome) → Tells end o → Tells other u → Tells result (worse o u) }
+    ensures { (o u : Outcome) → RefusesWith end o → RefusesWith other u → RefusesWith result (worse o u) }
 {
     match end {
         Overrun::Degree => other,

@@ -3,7 +3,7 @@ use Rattle.std.specs.Prelude.{List, [], ◌∷◌, ℤ}
 use Rattle.std.proofs.Common.{subst, ◌⊎◌, inl, inr}
 use Rattle.std.specs.declared.cmp.Ordering.{Ordering}
 use Rattle.alg_criterion.proofs.Spans.{Every, Led, Summand, Under, IsLine, IsGood, Spans, LowOf, IsMonomials, ArePairsBelow, ArePairsBelowLcm}
-use Rattle.alg_criterion.proofs.Machine.{Has, Pairwise, Seen, IsPoly, Reached, IsReduced, IsOver, IsCombination}
+use Rattle.alg_criterion.proofs.Machine.{Has, Pairwise, Seen, IsPoly, Reached, IsReduced, IsAtItsEnd, IsCombination}
 use Rattle.alg_criterion.proofs.Criterion.{leads_divide_lem}
 use Rattle.alg_criterion.proofs.Lifts.{from_lcm}
 use Rattle.alg_criterion.proofs.Remains.{poly_line, Leaves}
@@ -20,7 +20,7 @@ module _ {M : Type 0} {cmp : M → M → Ordering} {times over : M → M → M} 
   module _ (hyps powers : List Poly) (hyps_ok : Every (IsPoly cmp times over Ok) hyps)
       (powers_ok : Every (IsPoly cmp times over Ok) powers) where
     -- law 2: at an end by rule 8 all pairs are below
-    pub all_below : (s : Seen M) → Reached cmp times over Ok hyps powers s → IsOver cmp times over Ok s →
+    pub all_below : (s : Seen M) → Reached cmp times over Ok hyps powers s → IsAtItsEnd cmp times over Ok s →
         ArePairsBelowLcm cmp times Ok (In L s) over
     all_below s r o f g hf hg =
         let i = inv L hyps powers hyps_ok powers_ok s r in
@@ -36,7 +36,7 @@ module _ {M : Type 0} {cmp : M → M → Ordering} {times over : M → M → M} 
         ]
 
     -- law 1's second half: each hypothesis is a sum of basis lines whose leads do not exceed its own
-    pub all_cleared : (s : Seen M) → Reached cmp times over Ok hyps powers s → IsOver cmp times over Ok s →
+    pub all_cleared : (s : Seen M) → Reached cmp times over Ok hyps powers s → IsAtItsEnd cmp times over Ok s →
         Every (λ h. Spans cmp times Ok (In L s) (LowOf cmp h) h) hyps
     all_cleared s r o =
         let i = inv L hyps powers hyps_ok powers_ok s r in
@@ -48,7 +48,7 @@ module _ {M : Type 0} {cmp : M → M → Ordering} {times over : M → M → M} 
         ]) hyps hyps_ok i.given
 
     -- law 4: where no remainder can be reduced, no power is a combination of the hypotheses
-    pub none_exists_at : (s : Seen M) → Reached cmp times over Ok hyps powers s → IsOver cmp times over Ok s →
+    pub none_exists_at : (s : Seen M) → Reached cmp times over Ok hyps powers s → IsAtItsEnd cmp times over Ok s →
         Every (λ p. IsCombination cmp times over Ok hyps p → ⊥) powers
     none_exists_at s r o = go powers s.remainders i.left i.rests o.reduced
       where

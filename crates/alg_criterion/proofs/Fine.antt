@@ -3,7 +3,7 @@ use Rattle.std.specs.Prelude.{◌≡◌, ℕ, List, ◌++◌, length}
 use Rattle.alg_mono.specs.NumberedPolynomials.{Polynomial}
 use Rattle.alg_groebner.specs.State.{State, End, Next, Goes, Ends}
 use Rattle.alg_criterion.proofs.Spans.{Every}
-use Rattle.alg_criterion.proofs.Machine.{IsPoly, Reached, IsOver}
+use Rattle.alg_criterion.proofs.Machine.{IsPoly, Reached, IsAtItsEnd}
 use Rattle.alg_criterion.proofs.Numbered.{IsWithin, mono_times, mono_over, falling}
 use Rattle.alg_criterion.proofs.Seeing.{seen}
 
@@ -21,7 +21,7 @@ module _ (b : ℕ) (hyps powers : List Polynomial) (hyps_ok : Every (IsPoly fall
   -- and nothing is left to do there
   pub record IsDone (st : State) (r : ℕ) : Type 0 where
     pub fine : IsFine st
-    pub over : IsOver falling mono_times mono_over (IsWithin b) (seen hyps st fine.made)
+    pub over : IsAtItsEnd falling mono_times mono_over (IsWithin b) (seen hyps st fine.made)
     pub power : r ≡ length powers
 
   abbrev pub After : State → Next → Type 0

@@ -16,7 +16,7 @@ use Rattle.alg_mono.proofs.Lcm.{divides_product}
 use Rattle.alg_groebner.specs.Cancelling.{lead_lcm, s_polynomial}
 use Rattle.alg_groebner.specs.Leads.{reduces}
 use Rattle.alg_pairs.proofs.Dividing.{divides_says}
-use Rattle.alg_criterion.specs.Combinations.{Part, IsPart, IsBelowOver, ArePairsBelow}
+use Rattle.alg_criterion.specs.Combinations.{LineMultiple, IsLineMultiple, IsBelowOver, ArePairsBelow}
 use Rattle.alg_criterion.specs.Laws.{IsBasisLine, LeadsDivide}
 use Rattle.alg_criterion.proofs.Spans.{Every, Led, whole, IsLine, Spans, Under, ArePairsBelowLcm, s_entries}
 use Rattle.alg_criterion.proofs.Numbered.{IsWithin, mono_times, mono_over, falling}
@@ -31,19 +31,19 @@ use Rattle.alg_criterion.proofs.Cancelled.{s_polynomial_is}
 use Rattle.alg_criterion.proofs.Pairs.{entries_span}
 
 -- ---- a bound for the atoms of all monomials in play
-abbrev Within : ℕ → List Part → Type 0
+abbrev Within : ℕ → List LineMultiple → Type 0
 Within b ts = Every (λ t. IsWithin b t.by) ts
 
-parts_more : (b c : ℕ) → b ≤ c → (ts : List Part) → Within b ts → Within c ts
+parts_more : (b c : ℕ) → b ≤ c → (ts : List LineMultiple) → Within b ts → Within c ts
 parts_more b c h ts w =
-    every_more (λ (t : Part). IsWithin b t.by) (λ (t : Part). IsWithin c t.by) (λ t v. within_more b c h t.by v) ts w
+    every_more (λ (t : LineMultiple). IsWithin b t.by) (λ (t : LineMultiple). IsWithin c t.by) (λ t v. within_more b c h t.by v) ts w
 
-parts_bound : (lines : List Polynomial) (Low : Monomial → Type 0) (ts : List Part) → All (IsPart lines Low) ts →
+parts_bound : (lines : List Polynomial) (Low : Monomial → Type 0) (ts : List LineMultiple) → All (IsLineMultiple lines Low) ts →
     (b : ℕ) × Within b ts
 parts_bound lines Low ts h =
-    one_bound (λ (t : Part) b. IsWithin b t.by) (λ t b c l w. within_more b c l t.by w) ts
-    (every_more (IsPart lines Low) (λ t. (b : ℕ) × IsWithin b t.by) (λ t f. mono_bound t.by f.monomial) ts
-    (every_of (IsPart lines Low) ts h))
+    one_bound (λ (t : LineMultiple) b. IsWithin b t.by) (λ t b c l w. within_more b c l t.by w) ts
+    (every_more (IsLineMultiple lines Low) (λ t. (b : ℕ) × IsWithin b t.by) (λ t f. mono_bound t.by f.monomial) ts
+    (every_of (IsLineMultiple lines Low) ts h))
 
 module _ (basis : List Polynomial) where
   -- the pair is below by parts within the bound

@@ -121,7 +121,7 @@ module _ {M : Type 0} (cmp : M → M → Ordering) (times : M → M → M) (over
     pub none : (l : Led M) → Has l basis → (m : M) → times m l.lead ≢ led.lead
 
   -- NothingIsLeft
-  pub record IsOver (s : Seen M) : Type 0 where
+  pub record IsAtItsEnd (s : Seen M) : Type 0 where
     pub current : s.current ≡ None
     pub inputs : s.inputs ≡ []
     pub pairs : s.pairs ≡ []

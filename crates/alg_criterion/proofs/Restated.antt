@@ -1,4 +1,4 @@
--- Sums of parts as the proofs have them, and as the laws state them.
+-- Sums of multiples of lines as the proofs have them, and as the laws state them.
 use Rattle.std.specs.Prelude.{◌≡◌, ◌≢◌, ℕ, List, [], ◌∷◌, ◌++◌, ℤ, pos, ◌+ℤ◌, ◌*ℤ◌}
 use Rattle.std.proofs.Common.{refl, sym, ap, subst, ◌∙◌}
 use Rattle.std.specs.List.{Contains}
@@ -9,7 +9,7 @@ use Rattle.alg_mono.specs.Mono.{Monomial}
 use Rattle.alg_mono.specs.NumberedPolynomials.{Polynomial, multiple_of, term_of}
 use Rattle.alg_mono.proofs.Numbers.{integer_laws, *ℤ_assoc}
 use Rattle.alg_mono.proofs.Canonical.{IsCanonical-collect, same_canonical}
-use Rattle.alg_criterion.specs.Combinations.{Part, IsPart, IsSum, sum_of_parts}
+use Rattle.alg_criterion.specs.Combinations.{LineMultiple, IsLineMultiple, IsSum, sum_of_multiples}
 use Rattle.alg_criterion.proofs.Spans.{Every, Led, whole, Summand, summed, IsGood, Spans}
 use Rattle.alg_criterion.proofs.Numbered.{IsWithin, mono_times, falling}
 use Rattle.alg_criterion.proofs.Quotients.{falling_total, falling_anti}
@@ -19,20 +19,20 @@ use Rattle.alg_criterion.proofs.Whole.{product_apart, mul_left}
 use Rattle.alg_criterion.proofs.Lists.{every_of, all_of, led_of, whole-led_of, lead-led_of}
 use Rattle.alg_criterion.proofs.Values.{val, times_row, at-sum, at-multiple, at-times}
 
-abbrev to_terms : List Part → List (Summand Monomial)
+abbrev to_terms : List LineMultiple → List (Summand Monomial)
 to_terms [] = []
 to_terms (t ∷ ts) = record { factor = t.factor; by = t.by; line = led_of t.line } ∷ to_terms ts
 
-abbrev to_parts : List (Summand Monomial) → List Part
-to_parts [] = []
-to_parts (t ∷ ts) = record { factor = t.factor; by = t.by; line = whole t.line } ∷ to_parts ts
+abbrev to_multiples : List (Summand Monomial) → List LineMultiple
+to_multiples [] = []
+to_multiples (t ∷ ts) = record { factor = t.factor; by = t.by; line = whole t.line } ∷ to_multiples ts
 
 -- ---- from the statements
 module _ (lines : List Polynomial) (some : (f : Polynomial) → Contains lines f → f ≢ []) where
   abbrev pub In : Led Monomial → Type 0
   In l = Contains lines (whole l)
 
-  good_terms : (b : ℕ) (Low : Monomial → Type 0) (ts : List Part) → Every (IsPart lines Low) ts →
+  good_terms : (b : ℕ) (Low : Monomial → Type 0) (ts : List LineMultiple) → Every (IsLineMultiple lines Low) ts →
       Every (λ t. IsWithin b t.by) ts → Every (IsGood falling mono_times (IsWithin b) In Low) (to_terms ts)
   good_terms b Low [] h w = tt
   good_terms b Low (t ∷ ts) h w = (
@@ -44,11 +44,11 @@ module _ (lines : List Polynomial) (some : (f : Polynomial) → Contains lines f
     good_terms b Low ts h.1 w.1,
   )
 
-  at-parts : (Low : Monomial → Type 0) (q : Monomial) (ts : List Part) → Every (IsPart lines Low) ts →
-      val q (sum_of_parts ts) ≡ val q (summed mono_times (to_terms ts))
+  at-parts : (Low : Monomial → Type 0) (q : Monomial) (ts : List LineMultiple) → Every (IsLineMultiple lines Low) ts →
+      val q (sum_of_multiples ts) ≡ val q (summed mono_times (to_terms ts))
   at-parts Low q [] h = refl
   at-parts Low q (t ∷ ts) h =
-      at-sum q (multiple_of t.factor t.by t.line) (sum_of_parts ts)
+      at-sum q (multiple_of t.factor t.by t.line) (sum_of_multiples ts)
       ∙ (λ i. (at-multiple q t.factor t.by t.line
       ∙ ap (λ l. val q (times_row t.by t.factor l)) (sym (whole-led_of t.line (some t.line h.0.member)))) i
       +ℤ at-parts Low q ts h.1 i)
@@ -58,7 +58,7 @@ module _ (lines : List Polynomial) (some : (f : Polynomial) → Contains lines f
       (s : IsSum lines Low p) → Every (λ t. IsWithin b t.by) s.parts →
       Spans falling mono_times (IsWithin b) In Low p
   to_spans b Low p h s w =
-      let fit = every_of (IsPart lines Low) s.parts s.fit in
+      let fit = every_of (IsLineMultiple lines Low) s.parts s.fit in
       record {
         multiple = s.multiple;
         some = s.some;
@@ -68,24 +68,24 @@ module _ (lines : List Polynomial) (some : (f : Polynomial) → Contains lines f
       }
 
 -- ---- to the statements
-canonical-parts : (ts : List Part) → IsCanonical falling integers.amounts (sum_of_parts ts)
+canonical-parts : (ts : List LineMultiple) → IsCanonical falling integers.amounts (sum_of_multiples ts)
 canonical-parts [] = record { rises = tt; no_none = tt }
 canonical-parts (t ∷ ts) =
     IsCanonical-collect integer_laws.amounts falling_total falling_anti
-    (multiple_of t.factor t.by t.line ++ sum_of_parts ts)
+    (multiple_of t.factor t.by t.line ++ sum_of_multiples ts)
 
 at-terms : (q : Monomial) (ts : List (Summand Monomial)) →
-    val q (sum_of_parts (to_parts ts)) ≡ val q (summed mono_times ts)
+    val q (sum_of_multiples (to_multiples ts)) ≡ val q (summed mono_times ts)
 at-terms q [] = refl
 at-terms q (t ∷ ts) =
-    at-sum q (multiple_of t.factor t.by (whole t.line)) (sum_of_parts (to_parts ts))
+    at-sum q (multiple_of t.factor t.by (whole t.line)) (sum_of_multiples (to_multiples ts))
     ∙ (λ i. at-multiple q t.factor t.by (whole t.line) i +ℤ at-terms q ts i)
     ∙ sym (at-append falling q (times_row t.by t.factor (whole t.line)) (summed mono_times ts))
 
 module _ (lines : List Polynomial) (In : Led Monomial → Type 0)
     (member : (l : Led Monomial) → In l → Contains lines (whole l)) (b : ℕ) where
   fit_parts : (Low High : Monomial → Type 0) → ((v : Monomial) → Low v → High v) → (ts : List (Summand Monomial)) →
-      Every (IsGood falling mono_times (IsWithin b) In Low) ts → Every (IsPart lines High) (to_parts ts)
+      Every (IsGood falling mono_times (IsWithin b) In Low) ts → Every (IsLineMultiple lines High) (to_multiples ts)
   fit_parts Low High to [] g = tt
   fit_parts Low High to (t ∷ ts) g = (
     record {
@@ -102,13 +102,13 @@ module _ (lines : List Polynomial) (In : Led Monomial → Type 0)
   from_spans Low High to p h s = record {
     multiple = s.multiple;
     some = s.some;
-    parts = to_parts s.terms;
-    fit = all_of (IsPart lines High) (to_parts s.terms) (fit_parts Low High to s.terms s.good);
+    parts = to_multiples s.terms;
+    fit = all_of (IsLineMultiple lines High) (to_multiples s.terms) (fit_parts Low High to s.terms s.good);
     same = same_canonical integer_laws.amounts falling_total falling_anti (multiple_of s.multiple [] p)
-        (sum_of_parts (to_parts s.terms))
+        (sum_of_multiples (to_multiples s.terms))
         (IsCanonical-collect integer_laws.amounts falling_total falling_anti
         (products mono_times ◌*ℤ◌ (term_of [] s.multiple) p))
-        (canonical-parts (to_parts s.terms))
+        (canonical-parts (to_multiples s.terms))
         (λ q. at-times q s.multiple p h ∙ s.same q ∙ sym (at-terms q s.terms));
   }
 

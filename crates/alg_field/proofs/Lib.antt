@@ -10,4 +10,4 @@ pub mod Scaling
 pub mod MapRules
 pub mod Units
 pub mod Sides
-pub mod Tried
+pub mod TestTerms

@@ -7,7 +7,7 @@ use Rattle.std.specs.Result.{IsErrAnd}
 use Rattle.alg_terms.specs.declared.file.File.{File}
 use Rattle.alg_terms.specs.declared.goals.Equation.{Equation}
 use Rattle.alg_reify.specs.declared.ends.FractionEnd.{FractionEnd}
-use Rattle.alg_reify.specs.Ends.{TellsEnd}
+use Rattle.alg_reify.specs.Ends.{EndsFractionWith}
 use Rattle.alg_reify.specs.FieldVerdict.{IsFieldVerdict, sides_outcome}
 use Rattle.alg_reify.specs.RingVerdict.{own_table}
 use Rattle.alg_reify.specs.Table.{MAX_ATOMS}
@@ -17,10 +17,10 @@ use Rattle.alg_field.specs.declared.decide.FieldAnswer.{FieldAnswer}
 use Rattle.alg_field.specs.declared.decide.Sides.{Sides}
 
 pub sides_failed : (file : File) (e : Equation) (r : Result Sides FractionEnd) (end : FractionEnd) →
-    IsErrAnd r (λ d. d ≡ end) → TellsEnd end (sides_outcome e) → MakesSides file e r
+    IsErrAnd r (λ d. d ≡ end) → EndsFractionWith end (sides_outcome e) → MakesSides file e r
 sides_failed file e (Ok s) end came h = absurd came
 sides_failed file e (Err d) end came h =
-    let P : FractionEnd → Type 0 = λ x. TellsEnd x (sides_outcome e) in subst P (sym came) h
+    let P : FractionEnd → Type 0 = λ x. EndsFractionWith x (sides_outcome e) in subst P (sym came) h
 
 -- both numerators were compared
 pub answered : (file : File) (e : Equation) (s : Sides) (answer : FieldAnswer) → length (own_table file e) ≤ MAX_ATOMS →

@@ -14,7 +14,7 @@ use Rattle.alg_reify.specs.RingVerdict.{own_table}
 use Rattle.alg_field.specs.declared.decide.FieldAnswer.{FieldAnswer}
 use Rattle.alg_field.specs.declared.decide.Sides.{Sides}
 use Rattle.alg_reify.specs.declared.ends.FractionEnd.{FractionEnd}
-use Rattle.alg_reify.specs.Ends.{TellsEnd}
+use Rattle.alg_reify.specs.Ends.{EndsFractionWith}
 
 -- the verdict that an answer is
 abbrev pub verdict_of : FieldAnswer → FieldVerdict
@@ -23,11 +23,11 @@ verdict_of (FieldAnswer.No at left right) = FieldVerdict.No at left right
 verdict_of (FieldAnswer.ZeroDenominator t) = FieldVerdict.ZeroDenominator t
 
 -- a stop is the verdict of its name; want of memory says nothing
-abbrev pub Stops : File → Equation → Stop → Type 0
-Stops file e Stop.Atoms = IsFieldVerdict file e FieldVerdict.Atoms
-Stops file e Stop.Range = IsFieldVerdict file e FieldVerdict.Range
-Stops file e Stop.Degree = IsFieldVerdict file e FieldVerdict.Degree
-Stops file e Stop.NoMemory = Unit {0}
+abbrev pub StopsWith : File → Equation → Stop → Type 0
+StopsWith file e Stop.Atoms = IsFieldVerdict file e FieldVerdict.Atoms
+StopsWith file e Stop.Range = IsFieldVerdict file e FieldVerdict.Range
+StopsWith file e Stop.Degree = IsFieldVerdict file e FieldVerdict.Degree
+StopsWith file e Stop.NoMemory = Unit {0}
 
 -- both cleared numerators, by the numbers of the equation's atoms
 abbrev pub AreNumerators : File → Equation → Polynomial × Polynomial → Type 0
@@ -55,4 +55,4 @@ AreSides file e s = AreCleared file e s.conditions.items s.left s.right
 -- they were made, or the end is told
 abbrev pub MakesSides : File → Equation → Result Sides FractionEnd → Type 0
 MakesSides file e (Ok s) = AreSides file e s
-MakesSides file e (Err end) = TellsEnd end (sides_outcome e)
+MakesSides file e (Err end) = EndsFractionWith end (sides_outcome e)

@@ -5,4 +5,4 @@ pub mod Within
 pub mod Fractions
 pub mod Answers
 pub mod Laws
-pub mod Tried
+pub mod TestTerms

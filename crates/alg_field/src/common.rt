@@ -3,7 +3,7 @@
 ghost use Rattle.std.specs.Prelude.{◌≡◌, IfOk, IfErr};
 ghost use Rattle.alg_mono.specs.NumberedPolynomials.{product_of};
 ghost use Rattle.alg_mono.specs.Outcomes.{Outcome};
-ghost use Rattle.alg_mono.specs.Refusals.{Tells};
+ghost use Rattle.alg_mono.specs.Refusals.{RefusesWith};
 ghost use Rattle.alg_meaning.specs.FractionRules.{worse, over_outcome};
 ghost use Rattle.alg_reify.specs.FactorMaps.{lacks, product};
 
@@ -44,7 +44,7 @@ pub(crate) fn cleared(
     ensures fine { IfOk result (λ n.
         worse (over_outcome left lacks.now.left) (over_outcome right lacks.now.right) ≡ Outcome.Fine) }
     ensures refused { IfErr result (λ e.
-        Tells e (worse (over_outcome left lacks.now.left) (over_outcome right lacks.now.right))) }
+        RefusesWith e (worse (over_outcome left lacks.now.left) (over_outcome right lacks.now.right))) }
 {
     kept(worse(lacks.left.rule_over(&left), lacks.right.rule_over(&right)))?;
     let left = lacks.left.over(alloc, left)?;

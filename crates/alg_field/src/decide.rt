@@ -4,7 +4,7 @@ ghost use Rattle.std.specs.Prelude.{◌≡◌, IfOk, IfErr};
 ghost use Rattle.alg_terms.specs.GoalRules.{IsEquation};
 ghost use Rattle.alg_reify.specs.FieldVerdict.{IsFieldVerdict};
 ghost use Rattle.alg_reify.specs.RingVerdict.{own_table};
-ghost use Rattle.alg_field.specs.Answers.{verdict_of, Stops, HasNumerators, IsComparison, MakesSides};
+ghost use Rattle.alg_field.specs.Answers.{verdict_of, StopsWith, HasNumerators, IsComparison, MakesSides};
 
 use crate::fraction::{Fraction, numerators};
 use crate::{HornerPoly, Mono, NoMemory, Stop};
@@ -57,7 +57,7 @@ pub fn decide_field(alloc: Global, file: &File, equation: &Equation) -> Result<F
     ensures answer { IfOk result (λ d. IsFieldVerdict file.now equation.now (verdict_of d.answer)) }
     ensures numerators { IfOk result (λ d.
         HasNumerators file.now equation.now d.answer d.numerators) }
-    ensures stop { IfErr result (Stops file.now equation.now) }
+    ensures stop { IfErr result (StopsWith file.now equation.now) }
 {
     let table = atoms_of(alloc, file, equation, &[])?;
     match make_sides(alloc, file, &table, equation) {

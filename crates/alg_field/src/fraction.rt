@@ -6,7 +6,7 @@ ghost use Rattle.alg_mono.specs.FiniteMaps.{IsCanonical};
 ghost use Rattle.alg_mono.specs.NumberedPolynomials.{Polynomial, sum_of, difference_of, product_of};
 ghost use Rattle.alg_mono.specs.Numbers.{exponents};
 ghost use Rattle.alg_mono.specs.Outcomes.{Outcome, is_nothing, first_breach, sum_outcome, product_outcome};
-ghost use Rattle.alg_mono.specs.Refusals.{Tells};
+ghost use Rattle.alg_mono.specs.Refusals.{RefusesWith};
 ghost use Rattle.alg_meaning.specs.FractionRules.{worse, all_factors, over_outcome, below_outcome, cleared_outcome, sum_of_fractions, product_of_fractions, quotient_of_fractions, power_of_fraction};
 ghost use Rattle.alg_meaning.specs.FractionsOver.{is_unit, cleared, frac_opposite, frac_sum, frac_difference, frac_product, frac_quotient, frac_power};
 ghost use Rattle.alg_reify.specs.FactorMaps.{order, times_map, product};
@@ -207,7 +207,7 @@ pub(crate) fn numerators(
     ensures fine { IfOk result (λ n.
         cleared_outcome nat_cmp (fraction_of left) (fraction_of right) ≡ Outcome.Fine) }
     ensures refused { IfErr result (λ e.
-        Tells e (cleared_outcome nat_cmp (fraction_of left) (fraction_of right))) }
+        RefusesWith e (cleared_outcome nat_cmp (fraction_of left) (fraction_of right))) }
 {
     let lacks = lacks_of(alloc, &left.below, &right.below)?;
     cleared(alloc, left.top, right.top, &lacks)

@@ -4,7 +4,7 @@ ghost use Rattle.std.specs.Prelude.{◌≡◌, ℕ, OnOk, IfErr};
 ghost use Rattle.alg_mono.specs.Monomials.{MAX_DEGREE};
 ghost use Rattle.alg_mono.specs.Outcomes.{Outcome, outcome};
 ghost use Rattle.alg_mono.specs.Polynomials.{MAX};
-ghost use Rattle.alg_mono.specs.Refusals.{Tells};
+ghost use Rattle.alg_mono.specs.Refusals.{RefusesWith};
 ghost use Rattle.alg_meaning.specs.FractionRules.{worse};
 ghost use Rattle.alg_field.specs.Rules.{outcome_of, IsBound};
 
@@ -51,7 +51,7 @@ pub(crate) fn worse(a: Rule, b: Rule) -> Rule
 /// Refused where a rule is broken.
 pub(crate) fn kept(rule: Rule) -> Result<(), Overrun>
     ensures fine { OnOk result (outcome_of rule ≡ Outcome.Fine) }
-    ensures refused { IfErr result (λ e. Tells e (outcome_of rule)) }
+    ensures refused { IfErr result (λ e. RefusesWith e (outcome_of rule)) }
 {
     match rule {
         Rule::Fine => Ok(()),
@@ -62,7 +62,7 @@ pub(crate) fn kept(rule: Rule) -> Result<(), Overrun>
 
 /// What is told where one thing is refused, and another at the same node breaks a rule or none.
 pub(crate) fn worse_end(end: Overrun, rule: Rule) -> Overrun
-    ensures { (o : Outcome) → Tells end o → Tells result (worse o (outcome_of rule)) }
+    ensures { (o : Outcome) → RefusesWith end o → RefusesWith result (worse o (outcome_of rule)) }
 {
     match end {
         Overrun::Degree => match rule {

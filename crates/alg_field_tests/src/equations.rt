@@ -2,7 +2,7 @@
 
 ghost use Rattle.std.specs.Prelude.{◌≡◌, ◌≤◌, ◌<◌, ℕ, ◌+◌, IfOk, length, pos};
 ghost use Rattle.alg_terms.specs.GoalRules.{IsEquation};
-ghost use Rattle.alg_field.specs.Tried.{linear_power, IsSide};
+ghost use Rattle.alg_field.specs.TestTerms.{linear_power, IsSide};
 
 use alg_field::laws::proved_is_right;
 use alg_field::{FieldAnswer, FieldDecision, NoMemory, Stop, decide_field};

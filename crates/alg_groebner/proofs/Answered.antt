@@ -4,7 +4,7 @@ use Rattle.std.proofs.Common.{sym, ap, subst, ◌∙◌, arith}
 use Rattle.std.proofs.lemmas.List.{length-map}
 use Rattle.alg_mono.specs.NumberedPolynomials.{Polynomial}
 use Rattle.alg_mono.specs.Outcomes.{Outcome, is_nothing}
-use Rattle.alg_mono.specs.Refusals.{Tells}
+use Rattle.alg_mono.specs.Refusals.{RefusesWith}
 use Rattle.alg_mono.specs.declared.ends.Overrun.{Overrun}
 use Rattle.alg_mono.specs.declared.ends.Overrun.TheVariants as overruns
 use Rattle.alg_lines.specs.declared.cert.Cert.{Cert}
@@ -26,7 +26,7 @@ use Rattle.alg_groebner.specs.declared.remainder.Remainder.{Remainder}
 use Rattle.alg_groebner.proofs.Ordered.{first_in_order, runs_if_follows}
 use Rattle.alg_groebner.proofs.Ending.{first_sound, runs_sound, zero_found, position_within}
 
-pub refused_powers : (hyps : List Polynomial) (g : Polynomial) (power limit : ℕ) (e : Overrun) → Tells e
+pub refused_powers : (hyps : List Polynomial) (g : Polynomial) (power limit : ℕ) (e : Overrun) → RefusesWith e
     (powers_outcome g 1 power) →
     Decides hyps g power limit (Err e)
 refused_powers hyps g power limit overruns.Range t = (_, too_great t)

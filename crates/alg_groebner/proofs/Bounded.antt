@@ -18,7 +18,7 @@ use Rattle.alg_groebner.specs.Leads.{lead}
 use Rattle.alg_groebner.specs.Moves.{stepped, with_line, without_pair}
 use Rattle.alg_groebner.specs.Runs.{first_state, powers}
 use Rattle.alg_groebner.specs.State.{State}
-use Rattle.alg_groebner.specs.Within.{HasAtoms, IsOver, IsWithin}
+use Rattle.alg_groebner.specs.Within.{HasAtoms, IsOverAtoms, IsWithin}
 use Rattle.alg_groebner.proofs.Leading.{reduces_says}
 use Rattle.alg_groebner.proofs.Limited.{cancelled_within}
 use Rattle.alg_groebner.proofs.Over.{atoms_lcm, atoms_lead, atoms_over, over_cancelled, over_power}
@@ -43,38 +43,38 @@ module _ (n : ℕ) where
   StepHolds s = IsWithin n s.a [] s.b s.n s.d
 
   pub record IsRemainder (g : Remainder) : Type 0 where
-    pub rest : IsOver n g.rest
+    pub rest : IsOverAtoms n g.rest
     pub steps : All StepHolds g.steps
 
   pub record Holds (st : State) : Type 0 where
-    pub lines : All (IsOver n) st.lines
+    pub lines : All (IsOverAtoms n) st.lines
     pub made : All LineHolds st.made
     pub remainders : All IsRemainder st.remainders
 
-  nothing_over : IsOver n []
+  nothing_over : IsOverAtoms n []
   nothing_over =
       record { polynomial = record { canonical = record { rises = tt; no_none = tt }; monomials = tt }; atoms = tt }
 
-  line_over : (lines : List Polynomial) (k : ℕ) → All (IsOver n) lines → IsOver n (line_at lines k)
-  line_over lines k h = at_any (IsOver n) [] lines k nothing_over h
+  line_over : (lines : List Polynomial) (k : ℕ) → All (IsOverAtoms n) lines → IsOverAtoms n (line_at lines k)
+  line_over lines k h = at_any (IsOverAtoms n) [] lines k nothing_over h
 
-  quotient_over : (p q : Polynomial) → IsOver n p → HasAtoms n (quotient p q)
+  quotient_over : (p q : Polynomial) → IsOverAtoms n p → HasAtoms n (quotient p q)
   quotient_over p q h = atoms_over n (lead p) (lead q) (atoms_lead n p h)
 
-  lifts_over : (p q : Polynomial) → IsOver n p → IsOver n q → HasAtoms n (lead_lcm p q)
+  lifts_over : (p q : Polynomial) → IsOverAtoms n p → IsOverAtoms n q → HasAtoms n (lead_lcm p q)
   lifts_over p q h g = atoms_lcm n (lead p) (lead q) (atoms_lead n p h) (atoms_lead n q g)
 
   -- a line that is made of two that are not zero
   line_held : (st : State) (rest : List Pair) (m : Monomial) (i : ℕ) (q : Monomial) (j : ℕ) → Holds st →
       let c = cancelled m (line_at st.lines i) q (line_at st.lines j) in
-      IsWithin n c.a m c.b q c.d → IsOver n c.poly → Holds (with_line (without_pair st rest) m i q j c)
+      IsWithin n c.a m c.b q c.d → IsOverAtoms n c.poly → Holds (with_line (without_pair st rest) m i q j c)
   unfolding with_line
   line_held st rest m i q j h within over =
       let c = cancelled m (line_at st.lines i) q (line_at st.lines j) in
       let l : Line = record { a = c.a; m = m; i = i; b = c.b; n = q; j = j; d = c.d } in
       record {
-        lines = All-append (IsOver n) st.lines (c.poly ∷ []) h.lines
-            (All-cons (IsOver n) c.poly [] over (All-nil (IsOver n)));
+        lines = All-append (IsOverAtoms n) st.lines (c.poly ∷ []) h.lines
+            (All-cons (IsOverAtoms n) c.poly [] over (All-nil (IsOverAtoms n)));
         made = All-append LineHolds st.made (l ∷ []) h.made (All-cons LineHolds l [] within (All-nil LineHolds));
         remainders = h.remainders;
       }
@@ -82,7 +82,7 @@ module _ (n : ℕ) where
   -- a remainder after one more step
   remainder_held : (g : Remainder) (q : Monomial) (j : ℕ) (p : Polynomial) → IsRemainder g →
       let c = cancelled [] g.rest q p in
-      IsWithin n c.a [] c.b q c.d → IsOver n c.poly → IsRemainder (stepped g q j c)
+      IsWithin n c.a [] c.b q c.d → IsOverAtoms n c.poly → IsRemainder (stepped g q j c)
   unfolding stepped
   remainder_held g q j p h within over =
       let c = cancelled [] g.rest q p in
@@ -94,7 +94,7 @@ module _ (n : ℕ) where
       }
 
   -- p reduced by q
-  module _ (p q : Polynomial) (hp : IsOver n p) (hq : IsOver n q) (some : p ≢ []) (other : q ≢ []) where
+  module _ (p q : Polynomial) (hp : IsOverAtoms n p) (hq : IsOverAtoms n q) (some : p ≢ []) (other : q ≢ []) where
     reduced_within : cancel_outcome [] p (quotient p q) q ≡ Outcome.Fine →
         let c = reduced p q in IsWithin n c.a [] c.b (quotient p q) c.d
     reduced_within fine =
@@ -102,7 +102,7 @@ module _ (n : ℕ) where
         record { rises = tt; no_none = tt } tt
         (IsCanonical-mono_over nat_cmp_total nat_cmp-IsAntisymmetric (lead p) (lead q)) (quotient_over p q hp)
 
-    reduced_over : IsOver n ((reduced p q).poly)
+    reduced_over : IsOverAtoms n ((reduced p q).poly)
     reduced_over = over_cancelled n [] p (quotient p q) q tt (quotient_over p q hp) hp hq
 
     abbrev m : Monomial
@@ -123,7 +123,7 @@ module _ (n : ℕ) where
         (IsCanonical-mono_over nat_cmp_total nat_cmp-IsAntisymmetric (lead_lcm p q) (lead p)) m_over
         (IsCanonical-mono_over nat_cmp_total nat_cmp-IsAntisymmetric (lead_lcm p q) (lead q)) r_over
 
-    pair_over : IsOver n ((cancelled m p r q).poly)
+    pair_over : IsOverAtoms n ((cancelled m p r q).poly)
     pair_over = over_cancelled n m p r q m_over r_over hp hq
 
   -- each move keeps it
@@ -166,13 +166,13 @@ module _ (n : ℕ) where
   }
 
   -- the first state
-  powers_hold : (g : Polynomial) (r k : ℕ) → IsOver n g → All IsRemainder (powers g r k)
+  powers_hold : (g : Polynomial) (r k : ℕ) → IsOverAtoms n g → All IsRemainder (powers g r k)
   powers_hold g r zero h = All-nil IsRemainder
   powers_hold g r (suc k) h =
       All-cons IsRemainder _ (powers g (r + 1) k) (record { rest = over_power n g r h; steps = All-nil StepHolds })
       (powers_hold g (r + 1) k h)
 
-  pub first_holds : (hyps : List Polynomial) (g : Polynomial) (power : ℕ) → All (IsOver n) hyps → IsOver n g →
+  pub first_holds : (hyps : List Polynomial) (g : Polynomial) (power : ℕ) → All (IsOverAtoms n) hyps → IsOverAtoms n g →
       Holds (first_state hyps (powers g 1 power))
   first_holds hyps g power h over =
       record { lines = h; made = All-nil LineHolds; remainders = powers_hold g 1 power over }

@@ -14,7 +14,7 @@ use Rattle.alg_groebner.specs.Pruning.{certificate, certificate_from, kept_lines
 use Rattle.alg_groebner.specs.Runs.{Comes, first_state, powers, runs, too_great, too_high}
 use Rattle.alg_groebner.specs.Sound.{IsSound}
 use Rattle.alg_groebner.specs.State.{State, End}
-use Rattle.alg_groebner.specs.Within.{IsCertWithin, IsLineWithin, IsOver, IsStepWithin}
+use Rattle.alg_groebner.specs.Within.{IsCertWithin, IsLineWithin, IsOverAtoms, IsStepWithin}
 use Rattle.alg_groebner.proofs.Bounded.{Holds, IsRemainder, LineHolds, StepHolds, first_holds, moves_hold}
 use Rattle.alg_groebner.proofs.Ending.{first_sound, position_within, runs_sound, zero_found}
 use Rattle.alg_groebner.proofs.Ordered.{first_in_order, follows_if_runs}
@@ -76,7 +76,7 @@ module _ (n : ℕ) where
       (omega arith)
 
   come_within : (hyps : List Polynomial) (g : Polynomial) (power limit : ℕ) (last : State) (e : End) (r : ℕ) →
-      All (IsOver n) hyps → IsOver n g → length hyps < 2 ^ 31 → power ≤ 16 → limit ≤ 1000000 →
+      All (IsOverAtoms n) hyps → IsOverAtoms n g → length hyps < 2 ^ 31 → power ≤ 16 → limit ≤ 1000000 →
       Comes hyps g power limit last e → e ≡ End.Proved r → IsCertWithin n (certificate last r)
   come_within hyps g power limit last e r over h few small low (too_great t) q = absurd (grind arith)
   come_within hyps g power limit last e r over h few small low (too_high t) q = absurd (grind arith)

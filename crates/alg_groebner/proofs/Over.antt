@@ -16,7 +16,7 @@ use Rattle.alg_mono.proofs.Numbers.{integer_laws}
 use Rattle.alg_groebner.specs.Cancelling.{left_factor, right_factor, crossed, cancelled}
 use Rattle.alg_groebner.specs.Divisors.{content, over_number}
 use Rattle.alg_groebner.specs.Leads.{lead, leading}
-use Rattle.alg_groebner.specs.Within.{HasAtoms, IsOver}
+use Rattle.alg_groebner.specs.Within.{HasAtoms, IsOverAtoms}
 use Rattle.alg_groebner.proofs.Faithful.{IsPolynomial-cancelled}
 
 module _ (P : Monomial → Type 0) (times : (m n : Monomial) → P m → P n → P (mono_times nat_cmp m n)) where
@@ -67,25 +67,25 @@ module _ (n : ℕ) where
   pub atoms_lcm : (m q : Monomial) → HasAtoms n m → HasAtoms n q → HasAtoms n (lcm nat_cmp m q)
   atoms_lcm m q h g = atoms_times m (mono_over nat_cmp q m) h (atoms_over q m g)
 
-  pub atoms_lead : (p : Polynomial) → IsOver n p → HasAtoms n (lead p)
+  pub atoms_lead : (p : Polynomial) → IsOverAtoms n p → HasAtoms n (lead p)
   atoms_lead [] h = tt
   atoms_lead (e ∷ p) h = h.atoms.0
 
   pub over_cancelled : (m : Monomial) (p : Polynomial) (q : Monomial) (r : Polynomial) → HasAtoms n m →
-      HasAtoms n q → IsOver n p → IsOver n r → IsOver n ((cancelled m p q r).poly)
+      HasAtoms n q → IsOverAtoms n p → IsOverAtoms n r → IsOverAtoms n ((cancelled m p q r).poly)
   over_cancelled m p q r hm hq hp hr = record {
     polynomial = IsPolynomial-cancelled m p q r;
     atoms = each_cancelled (HasAtoms n) atoms_times m p q r hm hq hp.atoms hr.atoms;
   }
 
-  pub over_product : (p q : Polynomial) → IsOver n p → IsOver n q → IsOver n (product_of p q)
+  pub over_product : (p q : Polynomial) → IsOverAtoms n p → IsOverAtoms n q → IsOverAtoms n (product_of p q)
   over_product p q h g = record {
     polynomial =
         IsPolynomial-times integer_laws nat_cmp_total nat_cmp-IsAntisymmetric p q h.polynomial g.polynomial;
     atoms = each_product (HasAtoms n) atoms_times p q h.atoms g.atoms;
   }
 
-  pub over_power : (p : Polynomial) (k : ℕ) → IsOver n p → IsOver n (power_of p k)
+  pub over_power : (p : Polynomial) (k : ℕ) → IsOverAtoms n p → IsOverAtoms n (power_of p k)
   over_power p k h = record {
     polynomial = IsPolynomial-power integer_laws nat_cmp_total nat_cmp-IsAntisymmetric p k h.polynomial;
     atoms = each_power (HasAtoms n) atoms_times p k tt h.atoms;

@@ -3,7 +3,7 @@ use Rattle.std.specs.Prelude.{◌≡◌, ℕ, suc, ◌+◌, ◌-◌, ◌<◌, Bo
 use Rattle.std.proofs.Common.{get_or, refl, sym, ap, ◌∙◌, arith}
 use Rattle.std.proofs.lemmas.List.{at_drop_more, append_assoc, length-set, length-append, length-replicate}
 use Rattle.alg_mono.specs.Outcomes.{Outcome, first_breach, power_outcome}
-use Rattle.alg_mono.specs.Refusals.{Tells}
+use Rattle.alg_mono.specs.Refusals.{RefusesWith}
 use Rattle.alg_mono.specs.declared.ends.Overrun.{Overrun}
 use Rattle.alg_mono.specs.declared.ends.Overrun.TheVariants.{Range, Degree, NoMemory}
 use Rattle.alg_mono.specs.NumberedPolynomials.{Polynomial, power_of}
@@ -98,8 +98,8 @@ outcome_turn g r n all o h e i =
     ∙ ap (λ k. powers_outcome g (r + 1) k) (sym more) ∙ i
 
 -- the first power that breaks a rule tells of all
-pub told_first : (g : Polynomial) (r n : ℕ) (all : Outcome) (e : Overrun) → r < n → Tells e (power_outcome g (r + 1)) →
-    powers_outcome g (r + 1) (n - r) ≡ all → Tells e all
+pub told_first : (g : Polynomial) (r n : ℕ) (all : Outcome) (e : Overrun) → r < n → RefusesWith e (power_outcome g (r + 1)) →
+    powers_outcome g (r + 1) (n - r) ≡ all → RefusesWith e all
 told_first g r n all Range h t i = sym (outcome_turn g r n all Outcome.Range h t i)
 told_first g r n all Degree h t i = sym (outcome_turn g r n all Outcome.Degree h t i)
 told_first g r n all NoMemory h t i = tt

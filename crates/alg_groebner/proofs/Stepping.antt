@@ -5,7 +5,7 @@ use borrow.Author.Tests.{eqb-true}
 use Rattle.alg_mono.specs.Mono.{Monomial}
 use Rattle.alg_mono.specs.NumberedPolynomials.{Polynomial}
 use Rattle.alg_mono.specs.Outcomes.{Outcome}
-use Rattle.alg_mono.specs.Refusals.{Tells}
+use Rattle.alg_mono.specs.Refusals.{RefusesWith}
 use Rattle.alg_mono.specs.declared.ends.Overrun.{Overrun}
 use Rattle.alg_mono.specs.declared.ends.Overrun.TheVariants.{Range, Degree, NoMemory}
 use Rattle.alg_groebner.specs.Cancelling.{quotient, reduced, reduce_outcome, left_lift, right_lift, s_polynomial, s_outcome}
@@ -29,7 +29,7 @@ module _ (limit : ℕ) (w : Work) (due : w.count < limit) where
   counted_goes : (o : Outcome) (to new : Work) → o ≡ Outcome.Fine → new ≡ to → work_counted limit w o to ≡ GoesOn new
   counted_goes o to new fine e = counted_is o to ∙ ap (λ x. work_made x to) fine ∙ ap GoesOn (sym e)
 
-  counted_stops : (o : Outcome) (to old new : Work) (e : Overrun) → Tells e o → Steps (work_counted limit w o to)
+  counted_stops : (o : Outcome) (to old new : Work) (e : Overrun) → RefusesWith e o → Steps (work_counted limit w o to)
       (Err e) old new
   counted_stops o to old new Range t = counted_is o to ∙ ap (λ x. work_made x to) t
   counted_stops o to old new Degree t = counted_is o to ∙ ap (λ x. work_made x to) t
@@ -48,12 +48,12 @@ module _ (limit : ℕ) (w : Work) (due : w.count < limit) where
         (is ∙ (λ i. with_step w r (ne i) b.number (ce i)) ∙ (λ i. with_step w r (quotient (at i).rest b.poly) b.number
         (reduced (at i).rest b.poly)))
 
-    pub goal_stops : (old new : Work) (e : Overrun) → Tells e (reduce_outcome g.rest b.poly) →
+    pub goal_stops : (old new : Work) (e : Overrun) → RefusesWith e (reduce_outcome g.rest b.poly) →
         Steps (work_by_reducible hyps limit w (member_reducible w.basis 0 w.remainders)) (Err e) old new
     goal_stops old new e t =
         subst (λ (o : Option (ℕ × Member)). Steps (work_by_reducible hyps limit w o) (Err e) old new) chosen
         (counted_stops (reduce_outcome (remainder_at w.remainders r).rest b.poly) (work_goal_reduced w r b) old new e
-        (subst (λ (x : Remainder). Tells e (reduce_outcome x.rest b.poly)) at t))
+        (subst (λ (x : Remainder). RefusesWith e (reduce_outcome x.rest b.poly)) at t))
 
   -- PairIsTaken
   module _ (i j : ℕ) (b c : Member) (first : Some b ≡ member_at w.basis i) (second : Some c ≡ member_at w.basis j) where

@@ -14,7 +14,7 @@ use Rattle.alg_groebner.specs.Rules.{Takes, IsInOrder}
 use Rattle.alg_groebner.specs.State.{State, End, Proved, NoneUpTo, Next, Goes}
 use Rattle.alg_groebner.specs.Runs.{Runs, Comes, first_state}
 use Rattle.alg_groebner.specs.Sound.{IsSound}
-use Rattle.alg_groebner.specs.Within.{IsCertWithin, IsOver}
+use Rattle.alg_groebner.specs.Within.{IsCertWithin, IsOverAtoms}
 use Rattle.alg_groebner.specs.declared.remainder.Remainder.{Remainder}
 
 -- in each state one rule is taken, with one next state or one end
@@ -52,7 +52,7 @@ CertificatesAreGood =
 -- and where all polynomials are over n atoms, its numbers and monomials are within the limits, over these atoms
 abbrev pub CertificatesAreWithin : Type 0
 CertificatesAreWithin =
-    (n : ℕ) (hyps : List Polynomial) (g : Polynomial) (power limit : ℕ) → All (IsOver n) hyps → IsOver n g →
+    (n : ℕ) (hyps : List Polynomial) (g : Polynomial) (power limit : ℕ) → All (IsOverAtoms n) hyps → IsOverAtoms n g →
     length hyps < 2 ^ 31 → power ≤ 16 → limit ≤ 1000000 →
     (last : State) (r : ℕ) → Comes hyps g power limit last (Proved r) → IsCertWithin n (certificate last r)
 

@@ -26,7 +26,7 @@ module _ (n : ℕ) where
   HasAtoms m = Each (λ k. k < n) m
 
   -- a polynomial over n atoms
-  pub record IsOver (p : Polynomial) : Type 0 where
+  pub record IsOverAtoms (p : Polynomial) : Type 0 where
     pub polynomial : IsPolynomial nat_cmp integers p
     pub atoms : Each HasAtoms p
 

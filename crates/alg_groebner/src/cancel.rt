@@ -2,7 +2,7 @@
 
 ghost use Rattle.std.specs.Prelude.{◌≡◌, ◌≢◌, ◌≤ℤ◌, pos, [], true, IfOk, IfErr};
 ghost use Rattle.alg_mono.specs.Outcomes.{Outcome};
-ghost use Rattle.alg_mono.specs.Refusals.{Tells};
+ghost use Rattle.alg_mono.specs.Refusals.{RefusesWith};
 ghost use Rattle.alg_poly.specs.Divisors.{IsDivisible};
 ghost use Rattle.alg_groebner.specs.Divisors.{content};
 ghost use Rattle.alg_groebner.specs.Leads.{reduces};
@@ -46,7 +46,7 @@ pub(crate) fn cancel(
     requires q_some { q.now ≢ [] }
     ensures value { IfOk result (λ c. c ≡ cancelled m.now p.now n.now q.now) }
     ensures fine { IfOk result (λ c. cancel_outcome m.now p.now n.now q.now ≡ Outcome.Fine) }
-    ensures refused { IfErr result (λ e. Tells e (cancel_outcome m.now p.now n.now q.now)) }
+    ensures refused { IfErr result (λ e. RefusesWith e (cancel_outcome m.now p.now n.now q.now)) }
 {
     let u = leading_of(p);
     let v = leading_of(q);
@@ -64,7 +64,7 @@ pub(crate) fn reduce(alloc: Global, p: &Poly, q: &Poly) -> Result<(Mono, Cancell
     ensures quotient { IfOk result (λ r. r.0 ≡ quotient p.now q.now) }
     ensures value { IfOk result (λ r. r.1 ≡ reduced p.now q.now) }
     ensures fine { IfOk result (λ r. reduce_outcome p.now q.now ≡ Outcome.Fine) }
-    ensures refused { IfErr result (λ e. Tells e (reduce_outcome p.now q.now)) }
+    ensures refused { IfErr result (λ e. RefusesWith e (reduce_outcome p.now q.now)) }
 {
     let n = lead_of(p).over(alloc, lead_of(q))?;
     let made = cancel(alloc, &Mono::one(alloc), p, &n, q)?;
@@ -84,7 +84,7 @@ pub(crate) fn s_polynomial(
     ensures right { IfOk result (λ r. r.1 ≡ right_lift p.now q.now) }
     ensures value { IfOk result (λ r. r.2 ≡ s_polynomial p.now q.now) }
     ensures fine { IfOk result (λ r. s_outcome p.now q.now ≡ Outcome.Fine) }
-    ensures refused { IfErr result (λ e. Tells e (s_outcome p.now q.now)) }
+    ensures refused { IfErr result (λ e. RefusesWith e (s_outcome p.now q.now)) }
 {
     let lcm = match lead_of(p).lcm(alloc, lead_of(q)) {
         Ok(lcm) => lcm,

@@ -2,7 +2,7 @@
 
 ghost use Rattle.std.specs.Prelude.{◌≡◌, ◌≤◌, ◌<◌, ◌+◌, ◌^◌, IfOk, IfErr, length};
 ghost use Rattle.alg_mono.specs.Outcomes.{Outcome};
-ghost use Rattle.alg_mono.specs.Refusals.{Tells};
+ghost use Rattle.alg_mono.specs.Refusals.{RefusesWith};
 ghost use Rattle.alg_groebner.specs.Runs.{powers, powers_outcome};
 ghost use Rattle.alg_groebner.specs.Steps.{work_of, first_work, work_certificate};
 ghost use Rattle.alg_groebner.specs.Verdicts.{Decides, IsWithinLimit};
@@ -37,7 +37,7 @@ fn powers_of(alloc: Global, goal: &Poly, power: u32) -> Result<Vec<Remainder>, O
     requires { power ≤ 16 }
     ensures value { IfOk result (λ v. v.items ≡ powers goal.now 1 power) }
     ensures fine { IfOk result (λ v. powers_outcome goal.now 1 power ≡ Outcome.Fine) }
-    ensures refused { IfErr result (λ e. Tells e (powers_outcome goal.now 1 power)) }
+    ensures refused { IfErr result (λ e. RefusesWith e (powers_outcome goal.now 1 power)) }
 {
     let mut out = Vec::new(alloc);
     for r in 0..power {

@@ -4,7 +4,7 @@ ghost use Rattle.std.specs.Prelude.{◌≡◌, ◌*◌, ◌^◌, ◌≤◌, ◌�
 ghost use Rattle.alg_mono.specs.NumberedPolynomials.{product_of, power_of};
 ghost use Rattle.alg_mono.specs.Outcomes.{Outcome, product_outcome, power_outcome};
 ghost use Rattle.alg_mono.specs.Polynomials.{MAX};
-ghost use Rattle.alg_mono.specs.Refusals.{Tells};
+ghost use Rattle.alg_mono.specs.Refusals.{RefusesWith};
 
 use crate::poly::{GREATEST_DEGREE, GREATEST_NORM, HornerPoly};
 use crate::power::raise_any;
@@ -42,7 +42,7 @@ impl HornerPoly {
         ensures fine { IfOk result (λ p.
             product_outcome (self.now ∷ other.now ∷ []) ≡ Outcome.Fine) }
         ensures refused { IfErr result (λ e.
-            Tells e (product_outcome (self.now ∷ other.now ∷ []))) }
+            RefusesWith e (product_outcome (self.now ∷ other.now ∷ []))) }
     {
         if self.is_nothing() || other.is_nothing() {
             return Ok(HornerPoly::constant(0));
@@ -66,7 +66,7 @@ impl HornerPoly {
     pub fn power(&self, alloc: Global, n: u32) -> Result<HornerPoly, Overrun>
         ensures power { IfOk result (λ p. p ≡ power_of self.now n) }
         ensures fine { IfOk result (λ p. power_outcome self.now n ≡ Outcome.Fine) }
-        ensures refused { IfErr result (λ e. Tells e (power_outcome self.now n)) }
+        ensures refused { IfErr result (λ e. RefusesWith e (power_outcome self.now n)) }
     {
         if n > 0 && self.is_nothing() {
             return Ok(HornerPoly::constant(0));

@@ -4,7 +4,7 @@ ghost use Rattle.std.specs.Prelude.{◌≡◌, ◌+◌, ◌≤◌, IfOk, IfErr};
 ghost use Rattle.alg_mono.specs.NumberedPolynomials.{sum_of, difference_of};
 ghost use Rattle.alg_mono.specs.Outcomes.{Outcome, sum_outcome};
 ghost use Rattle.alg_mono.specs.Polynomials.{MAX, norm, poly_neg};
-ghost use Rattle.alg_mono.specs.Refusals.{Tells};
+ghost use Rattle.alg_mono.specs.Refusals.{RefusesWith};
 
 use crate::NoMemory;
 use crate::accumulate::add_multiple;
@@ -61,7 +61,7 @@ impl HornerPoly {
     pub fn add(&self, alloc: Global, other: &HornerPoly) -> Result<HornerPoly, Overrun>
         ensures sum { IfOk result (λ p. p ≡ sum_of self.now other.now) }
         ensures fine { IfOk result (λ p. sum_outcome self.now other.now ≡ Outcome.Fine) }
-        ensures refused { IfErr result (λ e. Tells e (sum_outcome self.now other.now)) }
+        ensures refused { IfErr result (λ e. RefusesWith e (sum_outcome self.now other.now)) }
     {
         if self.size() + other.size() > GREATEST_NORM {
             return Err(Overrun::Range);
@@ -76,7 +76,7 @@ impl HornerPoly {
     pub fn sub(&self, alloc: Global, other: &HornerPoly) -> Result<HornerPoly, Overrun>
         ensures difference { IfOk result (λ p. p ≡ difference_of self.now other.now) }
         ensures fine { IfOk result (λ p. sum_outcome self.now other.now ≡ Outcome.Fine) }
-        ensures refused { IfErr result (λ e. Tells e (sum_outcome self.now other.now)) }
+        ensures refused { IfErr result (λ e. RefusesWith e (sum_outcome self.now other.now)) }
     {
         if self.size() + other.size() > GREATEST_NORM {
             return Err(Overrun::Range);

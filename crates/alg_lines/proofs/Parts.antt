@@ -10,7 +10,7 @@ use Rattle.std.specs.Ordering.{nat_cmp}
 use Rattle.alg_mono.specs.Monomials.{mono_times, degree, MAX_DEGREE}
 use Rattle.alg_mono.specs.Outcomes.{Outcome, outcome, first_breach, is_nothing, sum_outcome, scale_outcome, combine_outcome}
 use Rattle.alg_mono.specs.Polynomials.{IsPolynomial, MAX, norm, poly_degree, poly_neg}
-use Rattle.alg_mono.specs.Refusals.{Tells}
+use Rattle.alg_mono.specs.Refusals.{RefusesWith}
 use Rattle.alg_mono.specs.declared.ends.Overrun.{Overrun}
 use Rattle.alg_mono.specs.declared.ends.Overrun.TheVariants.{Range, Degree, NoMemory}
 use Rattle.alg_mono.proofs.Norms.{norm-poly_scale}
@@ -35,14 +35,14 @@ IsFine Outcome.Range = ⊥
 IsFine Outcome.Degree = ⊥
 
 -- what breaks no rule is refused for want of memory alone, and that tells nothing
-pub tells_nothing : (e : Overrun) (o other : Outcome) → o ≡ Outcome.Fine → Tells e o → Tells e other
+pub tells_nothing : (e : Overrun) (o other : Outcome) → o ≡ Outcome.Fine → RefusesWith e o → RefusesWith e other
 unfolding IsFine
 tells_nothing Range o other f t = absurd (subst IsFine (sym f ∙ t) tt)
 tells_nothing Degree o other f t = absurd (subst IsFine (sym f ∙ t) tt)
 tells_nothing NoMemory o other f t = tt
 
 pub refused : {A : Type 0} (r : Result A Overrun) (o other : Outcome) → o ≡ Outcome.Fine →
-    IfErr r (λ e. Tells e o) → IfErr r (λ e. Tells e other)
+    IfErr r (λ e. RefusesWith e o) → IfErr r (λ e. RefusesWith e other)
 refused (Ok x) o other f t = tt
 refused (Err e) o other f t = tells_nothing e o other f t
 
@@ -71,9 +71,9 @@ pub always_fine : (r : Result Poly Overrun) (o : Outcome) → o ≡ Outcome.Fine
 always_fine (Ok x) o h = h
 always_fine (Err x) o h = tt
 
-pub told : (r : Result Poly Overrun) (o p : Outcome) → o ≡ p → IfErr r (λ e. Tells e o) → IfErr r (λ e. Tells e p)
+pub told : (r : Result Poly Overrun) (o p : Outcome) → o ≡ p → IfErr r (λ e. RefusesWith e o) → IfErr r (λ e. RefusesWith e p)
 told (Ok x) o p e h = tt
-told (Err x) o p e h = subst (Tells x) e h
+told (Err x) o p e h = subst (RefusesWith x) e h
 
 pub opposite_multiple : (b : ℤ) (n : Monomial) (q : Polynomial) → IsPolynomial nat_cmp integers q →
     multiple_of (neg_ℤ b) n q ≡ poly_neg (multiple_of b n q)

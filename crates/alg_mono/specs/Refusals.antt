@@ -6,12 +6,12 @@ use Rattle.alg_mono.specs.declared.ends.Overrun.{Overrun}
 use Rattle.alg_mono.specs.declared.ends.MonoEnd.{MonoEnd}
 
 -- the refusal names the rule that is broken; want of memory tells nothing
-abbrev pub Tells : Overrun → Outcome → Type 0
-Tells Overrun.Range outcome = outcome ≡ Outcome.Range
-Tells Overrun.Degree outcome = outcome ≡ Outcome.Degree
-Tells Overrun.NoMemory outcome = Unit {0}
+abbrev pub RefusesWith : Overrun → Outcome → Type 0
+RefusesWith Overrun.Range outcome = outcome ≡ Outcome.Range
+RefusesWith Overrun.Degree outcome = outcome ≡ Outcome.Degree
+RefusesWith Overrun.NoMemory outcome = Unit {0}
 
 -- a monomial is refused only where this would be its degree, and it is over the limit; want of memory tells nothing
-abbrev pub IsOver : ℕ → MonoEnd → Type 0
-IsOver degree MonoEnd.Degree = MAX_DEGREE < degree
-IsOver degree MonoEnd.NoMemory = Unit {0}
+abbrev pub IsOverDegreeLimit : ℕ → MonoEnd → Type 0
+IsOverDegreeLimit degree MonoEnd.Degree = MAX_DEGREE < degree
+IsOverDegreeLimit degree MonoEnd.NoMemory = Unit {0}

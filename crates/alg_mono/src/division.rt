@@ -4,7 +4,7 @@ ghost use Rattle.alg_mono.specs.FiniteMaps.{IsCanonical};
 ghost use Rattle.alg_mono.specs.Numbers.{exponents};
 ghost use Rattle.alg_mono.specs.Monomials.{MAX_DEGREE, degree, Divides, mono_times, mono_over, lcm};
 ghost use Rattle.alg_mono.specs.Mono.{FitsIn};
-ghost use Rattle.alg_mono.specs.Refusals.{IsOver};
+ghost use Rattle.alg_mono.specs.Refusals.{IsOverDegreeLimit};
 
 use crate::NoMemory;
 use crate::ends::MonoEnd;
@@ -67,7 +67,7 @@ impl Mono {
     pub fn lcm(&self, alloc: Global, other: &Mono) -> Result<Mono, MonoEnd>
         ensures ok { IfOk result (λ m. m ≡ lcm nat_cmp self.now other.now) }
         ensures within { IfOk result (λ m. degree (lcm nat_cmp self.now other.now) ≤ MAX_DEGREE) }
-        ensures refused { IfErr result (IsOver (degree (lcm nat_cmp self.now other.now))) }
+        ensures refused { IfErr result (IsOverDegreeLimit (degree (lcm nat_cmp self.now other.now))) }
     {
         let pairs = pairs_beyond(alloc, &other.pairs, self)?;
         let beyond = Mono { pairs };

@@ -5,7 +5,7 @@ ghost use Rattle.std.specs.Int.RustNames.{unsigned_abs};
 ghost use Rattle.alg_mono.specs.NumberedPolynomials.{Polynomial, atom_of, term_of, sum_of, difference_of, product_of, power_of};
 ghost use Rattle.alg_mono.specs.Outcomes.{Outcome, sum_outcome, product_outcome, power_outcome};
 ghost use Rattle.alg_mono.specs.Polynomials.{MAX, poly_neg};
-ghost use Rattle.alg_mono.specs.Refusals.{Tells};
+ghost use Rattle.alg_mono.specs.Refusals.{RefusesWith};
 
 use crate::{NoMemory, Overrun};
 use std::alloc::Global;
@@ -34,13 +34,13 @@ pub trait PolynomialForm: Drop {
     fn plus(self, alloc: Global, other: Self) -> Result<Self, Overrun>
         ensures sum { IfOk result (λ p. map p ≡ sum_of (map self) (map other)) }
         ensures fine { IfOk result (λ p. sum_outcome (map self) (map other) ≡ Outcome.Fine) }
-        ensures refused { IfErr result (λ e. Tells e (sum_outcome (map self) (map other))) };
+        ensures refused { IfErr result (λ e. RefusesWith e (sum_outcome (map self) (map other))) };
 
     /// The difference, refused where the sum is.
     fn minus(self, alloc: Global, other: Self) -> Result<Self, Overrun>
         ensures difference { IfOk result (λ p. map p ≡ difference_of (map self) (map other)) }
         ensures fine { IfOk result (λ p. sum_outcome (map self) (map other) ≡ Outcome.Fine) }
-        ensures refused { IfErr result (λ e. Tells e (sum_outcome (map self) (map other))) };
+        ensures refused { IfErr result (λ e. RefusesWith e (sum_outcome (map self) (map other))) };
 
     /// The product. Where neither factor is zero, `Range` comes exactly where the product of the
     /// norms is over 2^127 - 1, else `Degree` exactly where the degrees add up to more than 1,000.
@@ -49,11 +49,11 @@ pub trait PolynomialForm: Drop {
         ensures fine { IfOk result (λ p.
             product_outcome (map self ∷ map other ∷ []) ≡ Outcome.Fine) }
         ensures refused { IfErr result (λ e.
-            Tells e (product_outcome (map self ∷ map other ∷ []))) };
+            RefusesWith e (product_outcome (map self ∷ map other ∷ []))) };
 
     /// The power, refused as a product of `n` factors is. The power 0 is 1.
     fn raised(self, alloc: Global, n: u32) -> Result<Self, Overrun>
         ensures power { IfOk result (λ p. map p ≡ power_of (map self) n) }
         ensures fine { IfOk result (λ p. power_outcome (map self) n ≡ Outcome.Fine) }
-        ensures refused { IfErr result (λ e. Tells e (power_outcome (map self) n)) };
+        ensures refused { IfErr result (λ e. RefusesWith e (power_outcome (map self) n)) };
 }

@@ -3,7 +3,7 @@ ghost use Rattle.std.specs.Ordering.{nat_cmp};
 ghost use Rattle.alg_mono.specs.FiniteMaps.{IsCanonical, collect, put_in};
 ghost use Rattle.alg_mono.specs.Numbers.{exponents};
 ghost use Rattle.alg_mono.specs.Monomials.{MAX_DEGREE, degree};
-ghost use Rattle.alg_mono.specs.Refusals.{IsOver};
+ghost use Rattle.alg_mono.specs.Refusals.{IsOverDegreeLimit};
 
 use crate::NoMemory;
 use crate::ends::MonoEnd;
@@ -62,7 +62,7 @@ impl Mono {
     pub fn from_pairs(alloc: Global, pairs: &[(u32, u32)]) -> Result<Mono, MonoEnd>
         ensures ok { IfOk result (λ m. m ≡ collect nat_cmp exponents pairs.now) }
         ensures within { IfOk result (λ m. degree pairs.now ≤ MAX_DEGREE) }
-        ensures refused { IfErr result (IsOver (degree pairs.now)) }
+        ensures refused { IfErr result (IsOverDegreeLimit (degree pairs.now)) }
     {
         if is_too_great(pairs) {
             return Err(MonoEnd::Degree);

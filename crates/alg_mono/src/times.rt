@@ -3,7 +3,7 @@ ghost use Rattle.std.specs.Ordering.{nat_cmp};
 ghost use Rattle.alg_mono.specs.FiniteMaps.{IsCanonical};
 ghost use Rattle.alg_mono.specs.Numbers.{exponents};
 ghost use Rattle.alg_mono.specs.Monomials.{MAX_DEGREE, degree, mono_times};
-ghost use Rattle.alg_mono.specs.Refusals.{IsOver};
+ghost use Rattle.alg_mono.specs.Refusals.{IsOverDegreeLimit};
 
 use crate::NoMemory;
 use crate::ends::MonoEnd;
@@ -56,7 +56,7 @@ impl Mono {
     pub fn times(&self, alloc: Global, other: &Mono) -> Result<Mono, MonoEnd>
         ensures ok { IfOk result (λ m. m ≡ mono_times nat_cmp self.now other.now) }
         ensures within { IfOk result (λ m. degree self.now + degree other.now ≤ MAX_DEGREE) }
-        ensures refused { IfErr result (IsOver (degree self.now + degree other.now)) }
+        ensures refused { IfErr result (IsOverDegreeLimit (degree self.now + degree other.now)) }
     {
         if self.degree() + other.degree() > DEGREE_LIMIT {
             return Err(MonoEnd::Degree);

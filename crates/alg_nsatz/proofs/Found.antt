@@ -23,7 +23,7 @@ use Rattle.alg_reify.specs.Table.{table}
 use Rattle.alg_reify.proofs.UseTurns.{kept_length}
 use Rattle.alg_nsatz.specs.declared.decide.NsatzAnswer.{NsatzAnswer}
 use Rattle.alg_nsatz.specs.declared.preparing.Task.{Task}
-use Rattle.alg_nsatz.specs.Answers.{Answers, Stops, verdict_of}
+use Rattle.alg_nsatz.specs.Answers.{Answers, StopsWith, verdict_of}
 use Rattle.alg_nsatz.specs.Tasks.{IsPrepared, IsTaskBy, IsTask, StopsTask}
 use Rattle.alg_nsatz.specs.Verdict.{NsatzVerdict, IsVerdictBy, IsVerdictOf, SearchEnds, SearchComesTo}
 
@@ -117,7 +117,7 @@ found file goal t h a answers = found_by file goal.equation t goal.method h a an
 
 -- and so is what stops the search
 pub search_stops : (file : File) (goal : Goal) (t : Task) → IsTask file goal t → (end : Overrun) →
-    Answers t (sort_at file goal.equation.sort).char0 (Err end) → Stops file goal (stop_of_polynomial end)
+    Answers t (sort_at file goal.equation.sort).char0 (Err end) → StopsWith file goal (stop_of_polynomial end)
 search_stops file goal t h Overrun.Range answers = range_by file goal.equation t goal.method h answers
 search_stops file goal t h Overrun.Degree answers = degree_by file goal.equation t goal.method h answers
 search_stops file goal t h Overrun.NoMemory answers = tt
@@ -140,7 +140,7 @@ module _ (file : File) (e : Equation) where
   degree_stop (ByNsatz uses power limit) h = inl h
 
 pub preparing_stops : (file : File) (goal : Goal) (stop : Stop) → StopsTask file goal.equation goal.method stop →
-    Stops file goal stop
+    StopsWith file goal stop
 preparing_stops file goal Stop.Atoms h = atoms_stop file goal.equation goal.method h
 preparing_stops file goal Stop.Range h = range_stop file goal.equation goal.method h
 preparing_stops file goal Stop.Degree h = degree_stop file goal.equation goal.method h

@@ -33,7 +33,7 @@ use Rattle.alg_lines.specs.declared.cert.Cert.{Cert}
 use Rattle.alg_lines.specs.declared.cert.GoalStep.{GoalStep}
 use Rattle.alg_lines.specs.declared.cert.Line.{Line}
 use Rattle.alg_groebner.specs.Laws.{CertificatesAreWithin}
-use Rattle.alg_groebner.specs.Within.{IsCertWithin, IsLineWithin, IsMagnitude, IsOver, IsStepWithin}
+use Rattle.alg_groebner.specs.Within.{IsCertWithin, IsLineWithin, IsMagnitude, IsOverAtoms, IsStepWithin}
 use Rattle.alg_groebner.proofs.Over.{over_product}
 use Rattle.alg_reify.specs.Numbered.{number_of, numbered, numbered_monomial}
 use Rattle.alg_reify.specs.Preparing.{difference, goal_difference, is_equation, is_nonzero, nonzero_differences, prepared_goal, prepared_hyps, times_each, used_difference}
@@ -90,7 +90,7 @@ constants_within n cert false h =
 -- ---- what is prepared is over the table
 module _ (atoms : List Atom) where
   abbrev Over : Polynomial → Type 0
-  Over p = IsOver (length atoms) p
+  Over p = IsOverAtoms (length atoms) p
 
   side_over : (path : List ℕ) (t : Term) → All (Contains atoms) (leaves path t) →
       Each (λ m. Each (Contains atoms) m) (poly_of_under path t)

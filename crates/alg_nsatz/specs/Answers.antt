@@ -20,11 +20,11 @@ verdict_of (NsatzAnswer.NoneUpTo r) = NsatzVerdict.NoneUpTo r
 verdict_of (NsatzAnswer.GaveUp n) = NsatzVerdict.GaveUp n
 
 -- a stop is the verdict of its name; want of memory says nothing
-abbrev pub Stops : File → Goal → Stop → Type 0
-Stops file goal Stop.Atoms = IsNsatzVerdict file goal NsatzVerdict.Atoms
-Stops file goal Stop.Range = IsNsatzVerdict file goal NsatzVerdict.Range
-Stops file goal Stop.Degree = IsNsatzVerdict file goal NsatzVerdict.Degree
-Stops file goal Stop.NoMemory = Unit {0}
+abbrev pub StopsWith : File → Goal → Stop → Type 0
+StopsWith file goal Stop.Atoms = IsNsatzVerdict file goal NsatzVerdict.Atoms
+StopsWith file goal Stop.Range = IsNsatzVerdict file goal NsatzVerdict.Range
+StopsWith file goal Stop.Degree = IsNsatzVerdict file goal NsatzVerdict.Degree
+StopsWith file goal Stop.NoMemory = Unit {0}
 
 -- the search of a task decides so, and the constants are those of its certificate
 abbrev pub Answers : Task → Bool → Result NsatzAnswer Overrun → Type 0

@@ -7,7 +7,7 @@ use Rattle.alg_terms.specs.declared.file.File.{File}
 use Rattle.alg_terms.specs.declared.goals.Use.{Use}
 use Rattle.alg_mono.specs.declared.ends.Overrun.{Overrun}
 use Rattle.alg_mono.specs.Outcomes.{Outcome}
-use Rattle.alg_mono.specs.Refusals.{Tells}
+use Rattle.alg_mono.specs.Refusals.{RefusesWith}
 use Rattle.alg_reify.specs.Preparing.{difference_outcome, is_nonzero, used_difference, used_equation}
 use Rattle.alg_nsatz.specs.declared.preparing.Differences.{Differences}
 
@@ -23,4 +23,4 @@ module _ (file : File) (atoms : List Atom) (u : Use) where
   -- so it was, or the rule that it breaks is told
   abbrev pub PutsUse : Differences → Differences → Result (Unit {0}) Overrun → Type 0
   PutsUse before after (Ok _) = HasPut before after
-  PutsUse before after (Err e) = Tells e (difference_outcome u.path (used_equation file u))
+  PutsUse before after (Err e) = RefusesWith e (difference_outcome u.path (used_equation file u))

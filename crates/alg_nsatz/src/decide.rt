@@ -4,7 +4,7 @@ ghost use Rattle.std.specs.Prelude.{◌≡◌, ◌<◌, ◌≤◌, ◌^◌, leng
 ghost use Rattle.alg_terms.specs.Members.{goal_at, sort_at};
 ghost use Rattle.alg_terms.specs.Valid.{IsValid};
 ghost use Rattle.alg_reify.specs.Preparing.{IsByNsatz};
-ghost use Rattle.alg_nsatz.specs.Answers.{verdict_of, Stops, Answers};
+ghost use Rattle.alg_nsatz.specs.Answers.{verdict_of, StopsWith, Answers};
 ghost use Rattle.alg_nsatz.specs.Verdict.{IsNsatzVerdict};
 
 use crate::preparing::{Task, prepare};
@@ -68,7 +68,7 @@ pub fn decide_nsatz(alloc: Global, file: &File, goal: u32) -> Result<NsatzAnswer
     requires method { IsByNsatz (goal_at file.now goal).method }
     ensures answer { IfOk result (λ a.
         IsNsatzVerdict file.now (goal_at file.now goal) (verdict_of a)) }
-    ensures stop { IfErr result (Stops file.now (goal_at file.now goal)) }
+    ensures stop { IfErr result (StopsWith file.now (goal_at file.now goal)) }
 {
     let task = prepare(alloc, file, goal)?;
     let char0 = has_char0(file, goal);

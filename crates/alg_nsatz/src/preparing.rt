@@ -5,7 +5,7 @@ ghost use Rattle.alg_terms.specs.GoalRules.{IsEquation, IsGoal, IsHyp, DividesNo
 ghost use Rattle.alg_terms.specs.Members.{goal_at};
 ghost use Rattle.alg_terms.specs.Valid.{IsValid};
 ghost use Rattle.alg_mono.specs.Outcomes.{Outcome};
-ghost use Rattle.alg_mono.specs.Refusals.{Tells};
+ghost use Rattle.alg_mono.specs.Refusals.{RefusesWith};
 ghost use Rattle.alg_reify.specs.Numbered.{numbered};
 ghost use Rattle.alg_reify.specs.Preparing.{IsByNsatz, StopsPreparing, difference, difference_outcome, uses_outcome, equation_differences, nonzero_differences};
 ghost use Rattle.alg_reify.specs.Table.{equation_leaves, use_leaves};
@@ -50,7 +50,7 @@ fn difference(
     requires held { All (Contains table.now) (equation_leaves path.now equation.now) }
     ensures ok { IfOk result (λ p. p ≡ numbered table.now (difference path.now equation.now)) }
     ensures fine { OnOk result (difference_outcome path.now equation.now ≡ Outcome.Fine) }
-    ensures refused { IfErr result (λ e. Tells e (difference_outcome path.now equation.now)) }
+    ensures refused { IfErr result (λ e. RefusesWith e (difference_outcome path.now equation.now)) }
 {
     let left: Poly = reify(alloc, file, path, &equation.left, table)?;
     let right: Poly = reify(alloc, file, path, &equation.right, table)?;
@@ -106,7 +106,7 @@ fn make_differences(
     ensures nonzero { IfOk result (λ d.
         d.nonzero.items ≡ nonzero_differences file.now table.now uses.now) }
     ensures fine { OnOk result (uses_outcome file.now uses.now ≡ Outcome.Fine) }
-    ensures refused { IfErr result (λ e. Tells e (uses_outcome file.now uses.now)) }
+    ensures refused { IfErr result (λ e. RefusesWith e (uses_outcome file.now uses.now)) }
 {
     let mut differences = Differences {
         equations: Vec::new(alloc),

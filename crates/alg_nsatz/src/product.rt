@@ -6,7 +6,7 @@ ghost use Rattle.alg_mono.specs.Monomials.{MAX_DEGREE};
 ghost use Rattle.alg_mono.specs.NumberedPolynomials.{product_of};
 ghost use Rattle.alg_mono.specs.Outcomes.{Outcome, is_nothing, has_zero, norm_product, product_outcome};
 ghost use Rattle.alg_mono.specs.Polynomials.{IsPoly, MAX, norm, poly_degree};
-ghost use Rattle.alg_mono.specs.Refusals.{Tells};
+ghost use Rattle.alg_mono.specs.Refusals.{RefusesWith};
 ghost use Rattle.alg_reify.specs.Preparing.{times_each};
 ghost use Rattle.alg_nsatz.specs.Bounds.{IsBound};
 
@@ -114,7 +114,7 @@ fn multiply(alloc: Global, first: Poly, rest: &[Poly]) -> Result<Poly, NoMemory>
 pub(crate) fn product(alloc: Global, first: Poly, rest: &[Poly]) -> Result<Poly, Overrun>
     ensures product { IfOk result (λ r. r ≡ times_each first rest.now) }
     ensures fine { IfOk result (λ r. product_outcome (first ∷ rest.now) ≡ Outcome.Fine) }
-    ensures refused { IfErr result (λ e. Tells e (product_outcome (first ∷ rest.now))) }
+    ensures refused { IfErr result (λ e. RefusesWith e (product_outcome (first ∷ rest.now))) }
 {
     if is_zero(&first) || has_zero(rest) {
         return Ok(Poly::zero(alloc));

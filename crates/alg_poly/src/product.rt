@@ -7,7 +7,7 @@ ghost use Rattle.alg_mono.specs.Monomials.{MAX_DEGREE, degree};
 ghost use Rattle.alg_mono.specs.Numbers.{integers};
 ghost use Rattle.alg_mono.specs.Outcomes.{Outcome, product_outcome, power_outcome, scale_outcome};
 ghost use Rattle.alg_mono.specs.Polynomials.{IsPoly, IsPolynomial, MAX, norm, poly_degree};
-ghost use Rattle.alg_mono.specs.Refusals.{Tells};
+ghost use Rattle.alg_mono.specs.Refusals.{RefusesWith};
 ghost use Rattle.alg_mono.specs.NumberedPolynomials.{row_of, product_of, power_of, multiple_of};
 
 use crate::NoMemory;
@@ -110,7 +110,7 @@ impl Poly {
         ensures fine { IfOk result (λ p.
             product_outcome (self.now ∷ other.now ∷ []) ≡ Outcome.Fine) }
         ensures refused { IfErr result (λ e.
-            Tells e (product_outcome (self.now ∷ other.now ∷ []))) }
+            RefusesWith e (product_outcome (self.now ∷ other.now ∷ []))) }
     {
         if self.terms.is_empty() || other.terms.is_empty() {
             return Ok(Poly::zero(alloc));
@@ -133,7 +133,7 @@ impl Poly {
     pub fn power(&self, alloc: Global, n: u32) -> Result<Poly, Overrun>
         ensures power { IfOk result (λ p. p ≡ power_of self.now n) }
         ensures fine { IfOk result (λ p. power_outcome self.now n ≡ Outcome.Fine) }
-        ensures refused { IfErr result (λ e. Tells e (power_outcome self.now n)) }
+        ensures refused { IfErr result (λ e. RefusesWith e (power_outcome self.now n)) }
     {
         if n > 0 && self.terms.is_empty() {
             return Ok(Poly::zero(alloc));
@@ -157,7 +157,7 @@ impl Poly {
         requires { unsigned_abs c ≤ MAX }
         ensures multiple { IfOk result (λ p. p ≡ multiple_of c m.now self.now) }
         ensures fine { IfOk result (λ p. scale_outcome c m.now self.now ≡ Outcome.Fine) }
-        ensures refused { IfErr result (λ e. Tells e (scale_outcome c m.now self.now)) }
+        ensures refused { IfErr result (λ e. RefusesWith e (scale_outcome c m.now self.now)) }
     {
         if c == 0 || self.terms.is_empty() {
             return Ok(Poly::zero(alloc));

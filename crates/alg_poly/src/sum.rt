@@ -3,7 +3,7 @@
 ghost use Rattle.std.specs.Prelude.{◌≡◌, IfOk, IfErr};
 ghost use Rattle.alg_mono.specs.Outcomes.{Outcome, sum_outcome};
 ghost use Rattle.alg_mono.specs.Polynomials.{poly_neg};
-ghost use Rattle.alg_mono.specs.Refusals.{Tells};
+ghost use Rattle.alg_mono.specs.Refusals.{RefusesWith};
 ghost use Rattle.alg_mono.specs.NumberedPolynomials.{sum_of, difference_of};
 
 use crate::NoMemory;
@@ -20,7 +20,7 @@ impl Poly {
     pub fn add(&self, alloc: Global, other: &Poly) -> Result<Poly, Overrun>
         ensures sum { IfOk result (λ p. p ≡ sum_of self.now other.now) }
         ensures fine { IfOk result (λ p. sum_outcome self.now other.now ≡ Outcome.Fine) }
-        ensures refused { IfErr result (λ e. Tells e (sum_outcome self.now other.now)) }
+        ensures refused { IfErr result (λ e. RefusesWith e (sum_outcome self.now other.now)) }
     {
         if norm_of(&self.terms) + norm_of(&other.terms) > GREATEST_NORM {
             return Err(Overrun::Range);
@@ -35,7 +35,7 @@ impl Poly {
     pub fn sub(&self, alloc: Global, other: &Poly) -> Result<Poly, Overrun>
         ensures difference { IfOk result (λ p. p ≡ difference_of self.now other.now) }
         ensures fine { IfOk result (λ p. sum_outcome self.now other.now ≡ Outcome.Fine) }
-        ensures refused { IfErr result (λ e. Tells e (sum_outcome self.now other.now)) }
+        ensures refused { IfErr result (λ e. RefusesWith e (sum_outcome self.now other.now)) }
     {
         let opposite = other.neg(alloc)?;
         self.add(alloc, &opposite)

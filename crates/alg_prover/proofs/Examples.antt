@@ -21,7 +21,7 @@ use Rattle.alg_terms.specs.Valid.{IsValid, HasCounts, IsSort, IsHom, IsVar, name
 use Rattle.alg_terms.specs.GoalRules.{IsHyp}
 use Rattle.alg_terms.proofs.SmallNames.{spelled}
 use Rattle.alg_terms.proofs.Splits.{EachSplit, each_split}
-use Rattle.alg_reify.proofs.Tried.{tried_is_equation}
+use Rattle.alg_reify.proofs.TestTerms.{test_sides_are_equation}
 use Rattle.alg_prover.specs.Examples.{by_nsatz, example_goal, example}
 
 counts : HasCounts example
@@ -46,7 +46,7 @@ is_goal : (c d : ℤ) (method : Method) → (pos 0 ≤ℤ c) × (c ≤ℤ MAX_LI
     IsGoal example (example_goal c d method)
 is_goal c d method small great may =
     let e =
-    tried_is_equation example (pos 3) 2 c d (lit< tt) (search rules) (lit≤ tt) small great 0 _ _ refl refl refl in
+    test_sides_are_equation example (pos 3) 2 c d (lit< tt) (search rules) (lit≤ tt) small great 0 _ _ refl refl refl in
     record { equation = e.0; method = may _ refl e.1 }
 
 by_ring : (e : Equation) → e.sort ≡ 0 → DividesNowhere e → MayBeBy example e ByRing

@@ -33,11 +33,11 @@ abbrev pub IsAnswer : File → Goal → Answer → Type 0
 IsAnswer file goal answer = IsAnswerBy file goal.equation goal.method answer
 
 -- a stop of the decision is the answer of its name; want of memory says nothing
-abbrev pub Stops : File → Goal → Stop → Type 0
-Stops file goal Stop.Atoms = IsAnswer file goal Atoms
-Stops file goal Stop.Range = IsAnswer file goal Range
-Stops file goal Stop.Degree = IsAnswer file goal Degree
-Stops file goal Stop.NoMemory = Unit {0}
+abbrev pub StopsWith : File → Goal → Stop → Type 0
+StopsWith file goal Stop.Atoms = IsAnswer file goal Atoms
+StopsWith file goal Stop.Range = IsAnswer file goal Range
+StopsWith file goal Stop.Degree = IsAnswer file goal Degree
+StopsWith file goal Stop.NoMemory = Unit {0}
 
 -- one answer for each goal of the file, in their order
 abbrev pub AreAnswers : File → List Answer → Type 0

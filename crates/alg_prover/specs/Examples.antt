@@ -9,12 +9,12 @@ use Rattle.alg_terms.specs.declared.goals.Goal.{Goal}
 use Rattle.alg_terms.specs.declared.goals.Method.{Method}
 use Rattle.alg_terms.specs.declared.goals.Method.TheVariants.{ByRing, ByNsatz}
 use Rattle.alg_terms.specs.SmallFile.{name}
-use Rattle.alg_reify.specs.Tried.{tried}
+use Rattle.alg_reify.specs.TestTerms.{test_side}
 
 -- t + c = t + d by a method
 abbrev pub example_goal : ℤ → ℤ → Method → Goal
 example_goal c d method =
-    record { equation = record { sort = 0; left = tried (pos 3) 2 c; right = tried (pos 3) 2 d }; method = method }
+    record { equation = record { sort = 0; left = test_side (pos 3) 2 c; right = test_side (pos 3) 2 d }; method = method }
 
 -- by nsatz, without hypotheses
 abbrev pub by_nsatz : Method

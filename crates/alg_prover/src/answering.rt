@@ -7,7 +7,7 @@ ghost use Rattle.alg_terms.specs.Members.{goal_at};
 ghost use Rattle.alg_terms.specs.Valid.{IsValid};
 ghost use Rattle.alg_terms.specs.declared.goals.Method.TheVariants.{ByRing, ByField};
 ghost use Rattle.alg_printer.specs.Printable.{ArePrintable, IsPrintable};
-ghost use Rattle.alg_prover.specs.Answers.{IsAnswer, AreAnswers, Stops};
+ghost use Rattle.alg_prover.specs.Answers.{IsAnswer, AreAnswers, StopsWith};
 
 use crate::NoMemory;
 use alg_field::{FieldAnswer, FieldDecision, decide_field};
@@ -54,7 +54,7 @@ fn decide(alloc: Global, file: &File, number: u32) -> Result<Answer, Stop>
     requires there { number < length file.now.goals }
     ensures answer { IfOk result (IsAnswer file.now (goal_at file.now number)) }
     ensures printable { IfOk result (IsPrintable file.now (goal_at file.now number)) }
-    ensures stop { IfErr result (Stops file.now (goal_at file.now number)) }
+    ensures stop { IfErr result (StopsWith file.now (goal_at file.now number)) }
 {
     let goal = &file.goals.items()[number as usize];
     match &goal.method {
@@ -70,7 +70,7 @@ fn decide_by_ring(alloc: Global, file: &File, goal: &Goal) -> Result<Answer, Sto
     requires by_ring { goal.now.method ≡ ByRing }
     ensures answer { IfOk result (IsAnswer file.now goal.now) }
     ensures printable { IfOk result (IsPrintable file.now goal.now) }
-    ensures stop { IfErr result (Stops file.now goal.now) }
+    ensures stop { IfErr result (StopsWith file.now goal.now) }
 {
     alg_reify::laws::no_is_over_the_table();
     alg_reify::laws::no_is_within_range();
@@ -97,7 +97,7 @@ fn decide_by_field(alloc: Global, file: &File, goal: &Goal) -> Result<Answer, St
     requires by_field { goal.now.method ≡ ByField }
     ensures answer { IfOk result (IsAnswer file.now goal.now) }
     ensures printable { IfOk result (IsPrintable file.now goal.now) }
-    ensures stop { IfErr result (Stops file.now goal.now) }
+    ensures stop { IfErr result (StopsWith file.now goal.now) }
 {
     alg_reify::laws::field_no_is_over_the_table();
     alg_reify::laws::field_no_is_within_range();
@@ -124,7 +124,7 @@ fn decide_by_nsatz(alloc: Global, file: &File, number: u32) -> Result<Answer, St
     requires by_nsatz { IsByNsatz (goal_at file.now number).method }
     ensures answer { IfOk result (IsAnswer file.now (goal_at file.now number)) }
     ensures printable { IfOk result (IsPrintable file.now (goal_at file.now number)) }
-    ensures stop { IfErr result (Stops file.now (goal_at file.now number)) }
+    ensures stop { IfErr result (StopsWith file.now (goal_at file.now number)) }
 {
     alg_nsatz::laws::proved_is_within();
     match decide_nsatz(alloc, file, number)? {

@@ -1,7 +1,7 @@
 //! A file of four goals, and their answers.
 
 ghost use Rattle.std.specs.Prelude.{◌≡◌, IfOk, pos};
-ghost use Rattle.alg_reify.specs.Tried.{tried};
+ghost use Rattle.alg_reify.specs.TestTerms.{test_side};
 ghost use Rattle.alg_prover.specs.Examples.{by_nsatz, example, example_goal};
 
 use crate::laws::{answers_are_printable, no_differs, one_answer, proved_is_right};
@@ -15,7 +15,7 @@ use std::test::Fail;
 
 // (3*x)^2*x + c
 fn side(alloc: Global, c: u64) -> Result<Term, NoMemory>
-    ensures { IfOk result (λ term. term ≡ tried (pos 3) 2 (pos c)) }
+    ensures { IfOk result (λ term. term ≡ test_side (pos 3) 2 (pos c)) }
 {
     let base = Term::Mul(
         Boxed::new(alloc, Term::Int(3))?,

@@ -15,7 +15,7 @@ use Rattle.alg_mono.specs.declared.ends.Overrun.{Overrun}
 use Rattle.alg_mono.specs.Mono.{Monomial}
 use Rattle.alg_mono.specs.NumberedPolynomials.{Polynomial, DifferFirst}
 use Rattle.alg_mono.specs.Outcomes.{Outcome}
-use Rattle.alg_mono.specs.Refusals.{Tells}
+use Rattle.alg_mono.specs.Refusals.{RefusesWith}
 use Rattle.alg_meaning.specs.Atoms.{atom_cmp}
 use Rattle.alg_meaning.specs.Conditions.{denominators}
 use Rattle.alg_meaning.specs.FractionOutcome.{FractionOutcome, first_not_fine, frac_outcome, of_polynomials}
@@ -24,7 +24,7 @@ use Rattle.alg_meaning.specs.Fractions.{frac}
 use Rattle.alg_meaning.specs.FractionsOver.{FractionOver, cleared}
 use Rattle.alg_reify.specs.declared.ends.FractionEnd.{FractionEnd}
 use Rattle.alg_reify.specs.Added.{add_conditions}
-use Rattle.alg_reify.specs.Ends.{TellsRule, TellsEnd}
+use Rattle.alg_reify.specs.Ends.{RefusesFractionWith, EndsFractionWith}
 use Rattle.alg_reify.specs.FieldVerdict.{FieldVerdict, IsFieldVerdict, sides_outcome}
 use Rattle.alg_reify.specs.FractionsUnder.{made_fraction}
 use Rattle.alg_reify.specs.MadeSides.{AreBoth, AreCleared, MakesBoth, both_outcome}
@@ -39,7 +39,7 @@ use Rattle.alg_reify.proofs.Giving.{subst_both}
 use Rattle.alg_reify.proofs.Held.{held_left, held_right}
 
 -- a refusal of polynomials is one of fractions
-pub told : (e : Overrun) (o : Outcome) → Tells e o → TellsRule e (of_polynomials o)
+pub told : (e : Overrun) (o : Outcome) → RefusesWith e o → RefusesFractionWith e (of_polynomials o)
 told Overrun.Range o h = ap of_polynomials h
 told Overrun.Degree o h = ap of_polynomials h
 told Overrun.NoMemory o h = tt
@@ -59,8 +59,8 @@ sides_are : (e : Equation) → first_not_fine (both_outcome e) (last e) ≡ side
 sides_are e = both_first (frac_outcome e.left) (frac_outcome e.right) (last e)
 
 -- what ends the making of the fractions ends that of the numerators
-pub both_told : (e : Equation) (end : FractionEnd) → TellsEnd end (both_outcome e) → TellsEnd end (sides_outcome e)
-both_told e end h = subst (TellsEnd end) (sides_are e) (first_told end (both_outcome e) (last e) h)
+pub both_told : (e : Equation) (end : FractionEnd) → EndsFractionWith end (both_outcome e) → EndsFractionWith end (sides_outcome e)
+both_told e end h = subst (EndsFractionWith end) (sides_are e) (first_told end (both_outcome e) (last e) h)
 
 module _ (file : File) (e : Equation) (table : List Atom) (is : table ≡ own_table file e) where
   -- the table that the code has holds the atoms of both sides
@@ -76,19 +76,19 @@ module _ (file : File) (e : Equation) (table : List Atom) (is : table ≡ own_ta
 
   module _ {F : Type 0} (fraction : F → FractionOver ℕ) where
     pub both_failed : (all : List Term) (r : Result (F × F) FractionEnd) (end : FractionEnd) →
-        IsErrAnd r (λ d. d ≡ end) → TellsEnd end (both_outcome e) → MakesBoth fraction file e all r
+        IsErrAnd r (λ d. d ≡ end) → EndsFractionWith end (both_outcome e) → MakesBoth fraction file e all r
     both_failed all (Ok p) end came h = absurd came
     both_failed all (Err d) end came h =
-        let P : FractionEnd → Type 0 = λ x. TellsEnd x (both_outcome e) in subst P (sym came) h
+        let P : FractionEnd → Type 0 = λ x. EndsFractionWith x (both_outcome e) in subst P (sym came) h
 
     -- the left side ended
-    pub left_told : (end : FractionEnd) → TellsEnd end (frac_outcome e.left) → TellsEnd end (both_outcome e)
+    pub left_told : (end : FractionEnd) → EndsFractionWith end (frac_outcome e.left) → EndsFractionWith end (both_outcome e)
     left_told end h = first_told end (frac_outcome e.left) (frac_outcome e.right) h
 
     -- the right side did
     pub right_told : frac_outcome e.left ≡ FractionOutcome.Fine → (end : FractionEnd) →
-        TellsEnd end (frac_outcome e.right) → TellsEnd end (both_outcome e)
-    right_told fine end h = subst (TellsEnd end) (sym (ap (λ o. first_not_fine o (frac_outcome e.right)) fine)) h
+        EndsFractionWith end (frac_outcome e.right) → EndsFractionWith end (both_outcome e)
+    right_told fine end h = subst (EndsFractionWith end) (sym (ap (λ o. first_not_fine o (frac_outcome e.right)) fine)) h
 
     -- both were made
     pub both_are : (char0 : Bool) (start mid after : List ℕ) (seen some all : List Term) (f g : F) → start ≡ [] →
@@ -118,8 +118,8 @@ module _ {F : Type 0} (fraction : F → FractionOver ℕ) (file : File) (e : Equ
       ∙ ap of_polynomials (sym (sides_by_numbers file e).outcome)
       ∙ sym (ap (λ o. first_not_fine o (last e)) both.fine) ∙ sides_are e
 
-  pub numerators_told : (end : Overrun) → Tells end rule → TellsEnd (FractionEnd.Refused end) (sides_outcome e)
-  numerators_told end h = subst (TellsRule end) rule_is (told end rule h)
+  pub numerators_told : (end : Overrun) → RefusesWith end rule → EndsFractionWith (FractionEnd.Refused end) (sides_outcome e)
+  numerators_told end h = subst (RefusesFractionWith end) rule_is (told end rule h)
 
   -- they were made
   pub numerators_made : (terms : List Term) (p q : Polynomial) → p ≡ cleared nat_cmp (fraction f) (fraction g) →

@@ -21,13 +21,13 @@ use Rattle.alg_reify.proofs.AtomsIn.{both_parts}
 use Rattle.alg_reify.proofs.Leaves.{leaves-both}
 use Rattle.alg_reify.specs.Added.{add_conditions}
 use Rattle.alg_reify.specs.declared.ends.FractionEnd.{FractionEnd}
-use Rattle.alg_reify.specs.Ends.{TellsEnd, GivesFraction}
+use Rattle.alg_reify.specs.Ends.{EndsFractionWith, GivesFraction}
 use Rattle.alg_reify.specs.MakingFractions.{Operation, operation, operated, operated_outcome, operated_conditions, HasParts, IsFractionOver, IsMade, MakesFraction, Combines}
 use Rattle.alg_reify.proofs.Operations.{operation_binary}
 use Rattle.alg_reify.proofs.FractionParts.{HasPart, HasTwo, two_parts}
 
 -- the end that comes first is the one that is told
-pub first_told : (e : FractionEnd) (o later : FractionOutcome) → TellsEnd e o → TellsEnd e (first_not_fine o later)
+pub first_told : (e : FractionEnd) (o later : FractionOutcome) → EndsFractionWith e o → EndsFractionWith e (first_not_fine o later)
 first_told (FractionEnd.Refused Overrun.Range) o later h = ap (λ x. first_not_fine x later) h
 first_told (FractionEnd.Refused Overrun.Degree) o later h = ap (λ x. first_not_fine x later) h
 first_told (FractionEnd.Refused Overrun.NoMemory) o later h = tt
@@ -50,11 +50,11 @@ module _ {F : Type 0} (fraction : F → FractionOver ℕ) (char0 : Bool) (atoms 
   where
     -- an end that was handed on
     pub handed_on : (after : List ℕ) (seen all : List Term) (r : Result F FractionEnd) (e : FractionEnd) →
-        IsErrAnd r (λ d. d ≡ e) → TellsEnd e (frac_outcome t) → MakesFraction fraction char0 atoms path after seen
+        IsErrAnd r (λ d. d ≡ e) → EndsFractionWith e (frac_outcome t) → MakesFraction fraction char0 atoms path after seen
         all t r
     handed_on after seen all (Ok f) e came h = absurd came
     handed_on after seen all (Err d) e came h =
-        let P : FractionEnd → Type 0 = λ x. TellsEnd x (frac_outcome t) in subst P (sym came) h
+        let P : FractionEnd → Type 0 = λ x. EndsFractionWith x (frac_outcome t) in subst P (sym came) h
 
     -- the node's own operation gave this
     pub finished : (x : FractionOver ℕ) (o : FractionOutcome) (after : List ℕ) (seen all : List Term)
@@ -64,7 +64,7 @@ module _ {F : Type 0} (fraction : F → FractionOver ℕ) (char0 : Bool) (atoms 
         MakesFraction fraction char0 atoms path after seen all t r
     finished x o after seen all (Ok f) given is like back added =
         record { value = given.0 ∙ is; fine = sym like ∙ given.1; back = back; conditions = added }
-    finished x o after seen all (Err e) given is like back added = subst (TellsEnd e) like given
+    finished x o after seen all (Err e) given is like back added = subst (EndsFractionWith e) like given
 
     -- ---- one part
     module _ (inner : List ℕ) (part : Term) (node : FractionOver ℕ → FractionOver ℕ)
@@ -73,10 +73,10 @@ module _ {F : Type 0} (fraction : F → FractionOver ℕ) (char0 : Bool) (atoms 
       pub part_over : IsFractionOver atoms inner part
       part_over = record { literals = h.literals over.literals; held = h.held over.held }
 
-      pub part_failed : (e : FractionEnd) → TellsEnd e (frac_outcome part) → TellsEnd e (frac_outcome t)
+      pub part_failed : (e : FractionEnd) → EndsFractionWith e (frac_outcome part) → EndsFractionWith e (frac_outcome t)
       part_failed e told =
           let M = made_fraction atoms inner part in
-          subst (TellsEnd e) (sym (h.outcome (h.held over.held))) (first_told e (frac_outcome part) (own M) told)
+          subst (EndsFractionWith e) (sym (h.outcome (h.held over.held))) (first_told e (frac_outcome part) (own M) told)
 
       pub part_made : (last after : List ℕ) (seen all : List Term) (f : F) (r : Result F FractionEnd) →
           IsMade fraction char0 atoms inner last seen all part f →
@@ -133,19 +133,19 @@ module _ {F : Type 0} (fraction : F → FractionOver ℕ) (char0 : Bool) (atoms 
       abbrev own : FractionOutcome
       own = operated_outcome (operation t) (made_fraction atoms path l) (made_fraction atoms path r)
 
-      pub left_failed : (e : FractionEnd) → TellsEnd e (frac_outcome l) → TellsEnd e (frac_outcome t)
+      pub left_failed : (e : FractionEnd) → EndsFractionWith e (frac_outcome l) → EndsFractionWith e (frac_outcome t)
       left_failed e told =
-          subst (TellsEnd e) (sym (two.outcome held_parts.0 held_parts.1))
+          subst (EndsFractionWith e) (sym (two.outcome held_parts.0 held_parts.1))
           (first_told e (frac_outcome l) (first_not_fine (frac_outcome r) own) told)
 
       after_left : frac_outcome l ≡ FractionOutcome.Fine → frac_outcome t ≡ first_not_fine (frac_outcome r) own
       after_left fine =
           two.outcome held_parts.0 held_parts.1 ∙ ap (λ o. first_not_fine o (first_not_fine (frac_outcome r) own)) fine
 
-      pub right_failed : frac_outcome l ≡ FractionOutcome.Fine → (e : FractionEnd) → TellsEnd e (frac_outcome r) →
-          TellsEnd e (frac_outcome t)
+      pub right_failed : frac_outcome l ≡ FractionOutcome.Fine → (e : FractionEnd) → EndsFractionWith e (frac_outcome r) →
+          EndsFractionWith e (frac_outcome t)
       right_failed fine e told =
-          subst (TellsEnd e) (sym (after_left fine)) (first_told e (frac_outcome r) own told)
+          subst (EndsFractionWith e) (sym (after_left fine)) (first_told e (frac_outcome r) own told)
 
       pub both_made : (mid last : List ℕ) (seen some all end : List Term) (f g : F)
           (result : Result F FractionEnd) → IsMade fraction char0 atoms path mid seen some l f →

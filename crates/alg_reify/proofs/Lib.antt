@@ -29,7 +29,7 @@ pub mod Ranges
 pub mod RenamedFractions
 pub mod RenamedMaps
 pub mod Results
-pub mod Tried
+pub mod TestTerms
 pub mod Undone
 pub mod Uses
 pub mod Verdicts

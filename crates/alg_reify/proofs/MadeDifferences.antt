@@ -8,7 +8,7 @@ use Rattle.alg_terms.specs.declared.goals.Equation.{Equation}
 use Rattle.alg_mono.specs.declared.ends.Overrun.{Overrun}
 use Rattle.alg_mono.specs.NumberedPolynomials.{Polynomial, difference_of}
 use Rattle.alg_mono.specs.Outcomes.{Outcome, first_breach, sum_outcome}
-use Rattle.alg_mono.specs.Refusals.{Tells}
+use Rattle.alg_mono.specs.Refusals.{RefusesWith}
 use Rattle.alg_meaning.specs.PolynomialOf.{poly_of_under}
 use Rattle.alg_meaning.specs.TermOutcome.{term_outcome}
 use Rattle.alg_reify.specs.Numbered.{numbered}
@@ -43,5 +43,5 @@ module _ (atoms : List Atom) (path : List ℕ) (e : Equation) (held : All (Conta
         fine (Ok s) h = sym is_outcome ∙ h
         fine (Err e) h = tt
 
-    pub difference_told : IfErr r (λ d. Tells d (sum_outcome p q)) → IfErr r (λ d. Tells d (difference_outcome path e))
-    difference_told h = subst (λ (o : Outcome). IfErr r (λ d. Tells d o)) is_outcome h
+    pub difference_told : IfErr r (λ d. RefusesWith d (sum_outcome p q)) → IfErr r (λ d. RefusesWith d (difference_outcome path e))
+    difference_told h = subst (λ (o : Outcome). IfErr r (λ d. RefusesWith d o)) is_outcome h

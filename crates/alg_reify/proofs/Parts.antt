@@ -18,7 +18,7 @@ use Rattle.alg_meaning.specs.PolynomialOf.{poly_of}
 use Rattle.alg_meaning.specs.TermOutcome.{term_outcome}
 use Rattle.alg_meaning.proofs.Built.{unary_outcome, binary_outcome, term_outcome_unary, term_outcome_binary}
 use Rattle.alg_reify.specs.Table.{leaves}
-use Rattle.alg_reify.specs.Making.{IsOver}
+use Rattle.alg_reify.specs.Making.{IsOverTable}
 use Rattle.alg_reify.proofs.AtomsIn.{both_parts}
 use Rattle.alg_reify.proofs.Leaves.{path_below, leaves_unary, leaves_binary, leaves-Var}
 
@@ -67,7 +67,7 @@ parts o {t = t} {a = a} {b = b} {l = l} {r = r} e p q =
 -- ---- what is asked of a term is so of its parts
 pub over_part : (atoms : List Atom) (path inner : List ℕ) (t part : Term) (own : Outcome) →
     HasPart t part path inner own →
-    IsOver atoms path t → IsOver atoms inner part
+    IsOverTable atoms path t → IsOverTable atoms inner part
 over_part atoms path inner t part own h over = record {
   literals = h.literals over.literals;
   plain = h.plain over.plain;
@@ -77,12 +77,12 @@ over_part atoms path inner t part own h over = record {
 -- the inner path, as the code has it
 pub over_inner : (atoms : List Atom) (path inner : List ℕ) (t part : Term) (own : Outcome) →
     HasPart t part path inner own →
-    IsOver atoms path t → (pushed : List ℕ) → pushed ≡ inner → IsOver atoms pushed part
+    IsOverTable atoms path t → (pushed : List ℕ) → pushed ≡ inner → IsOverTable atoms pushed part
 over_inner atoms path inner t part own h over pushed e =
-    let P : List ℕ → Type 0 = λ x. IsOver atoms x part in subst P (sym e) (over_part atoms path inner t part own h over)
+    let P : List ℕ → Type 0 = λ x. IsOverTable atoms x part in subst P (sym e) (over_part atoms path inner t part own h over)
 
 module _ {atoms : List Atom} {path : List ℕ} {t l r : Term} {own : Outcome} (h : HasParts t l r own)
-    (over : IsOver atoms path t) where
+    (over : IsOverTable atoms path t) where
   -- the atoms of both parts
   held_parts : All (Contains atoms) (leaves path l) × All (Contains atoms) (leaves path r)
   held_parts =
@@ -92,17 +92,17 @@ module _ {atoms : List Atom} {path : List ℕ} {t l r : Term} {own : Outcome} (h
       (All-from_recursion P (leaves path l) parts.0, All-from_recursion P (leaves path r) parts.1)
 
   -- the left part, and the right
-  pub over_left : IsOver atoms path l
+  pub over_left : IsOverTable atoms path l
   over_left =
       record { literals = (h.literals over.literals).0; plain = (h.plain over.plain).0; held = held_parts.0 }
 
-  pub over_right : IsOver atoms path r
+  pub over_right : IsOverTable atoms path r
   over_right =
       record { literals = (h.literals over.literals).1; plain = (h.plain over.plain).1; held = held_parts.1 }
 
   -- the path is as before where the right part is made
-  pub over_right_after : {after : List ℕ} → after ≡ path → IsOver atoms after r
-  over_right_after e = let P : List ℕ → Type 0 = λ x. IsOver atoms x r in subst P (sym e) over_right
+  pub over_right_after : {after : List ℕ} → after ≡ path → IsOverTable atoms after r
+  over_right_after e = let P : List ℕ → Type 0 = λ x. IsOverTable atoms x r in subst P (sym e) over_right
 
 -- what the rule on literals says
 bounds : (n : ℤ) → EachNode HasLiteral (Int n) → (pos 0 ≤ℤ n) × (n ≤ℤ MAX_LITERAL)

@@ -8,38 +8,38 @@ use Rattle.alg_terms.specs.declared.goals.Use.{Use}
 use Rattle.alg_mono.specs.declared.ends.Overrun.{Overrun}
 use Rattle.alg_mono.specs.NumberedPolynomials.{Polynomial}
 use Rattle.alg_mono.specs.Outcomes.{Outcome, first_breach, product_outcome}
-use Rattle.alg_mono.specs.Refusals.{Tells}
+use Rattle.alg_mono.specs.Refusals.{RefusesWith}
 use Rattle.alg_reify.specs.Numbered.{numbered}
 use Rattle.alg_reify.specs.Preparing.{PreparesTo, StopsPreparing, difference, difference_outcome, equation_differences, nonzero_differences, prepared_goal, prepared_hyps, prepared_outcome, times_each, uses_outcome}
-use Rattle.alg_reify.specs.Stops.{Stops, stop_of_polynomial}
+use Rattle.alg_reify.specs.Stops.{StopsWith, stop_of_polynomial}
 use Rattle.alg_reify.specs.Table.{MAX_ATOMS, table}
 use Rattle.alg_reify.proofs.Results.{first_told}
 
 -- a refusal is the stop of its rule
 pub rule_stops : (atoms : List Atom) (outcome : Outcome) → length atoms ≤ MAX_ATOMS → (end : Overrun) →
-    Tells end outcome → Stops atoms outcome (stop_of_polynomial end)
+    RefusesWith end outcome → StopsWith atoms outcome (stop_of_polynomial end)
 rule_stops atoms outcome small Overrun.Range h = (small, h)
 rule_stops atoms outcome small Overrun.Degree h = (small, h)
 rule_stops atoms outcome small Overrun.NoMemory h = tt
 
 module _ (file : File) (e : Equation) (uses : List Use) (small : length (table file e uses) ≤ MAX_ATOMS) where
-  stops : (end : Overrun) → Tells end (prepared_outcome file e uses) →
+  stops : (end : Overrun) → RefusesWith end (prepared_outcome file e uses) →
       StopsPreparing file e uses (stop_of_polynomial end)
   stops = rule_stops (table file e uses) (prepared_outcome file e uses) small
 
   -- the goal's difference was refused
-  pub goal_stops : (end : Overrun) → Tells end (difference_outcome [] e) →
+  pub goal_stops : (end : Overrun) → RefusesWith end (difference_outcome [] e) →
       StopsPreparing file e uses (stop_of_polynomial end)
   goal_stops end h = stops end (first_told end (difference_outcome [] e) _ h)
 
   module _ (fine : difference_outcome [] e ≡ Outcome.Fine) where
     -- a use's was
-    pub use_stops : (end : Overrun) → Tells end (uses_outcome file uses) →
+    pub use_stops : (end : Overrun) → RefusesWith end (uses_outcome file uses) →
         StopsPreparing file e uses (stop_of_polynomial end)
     use_stops end h =
         let product = product_outcome (numbered (table file e uses) (difference [] e)
         ∷ nonzero_differences file (table file e uses) uses) in
-        stops end (subst (Tells end)
+        stops end (subst (RefusesWith end)
         (sym (ap (λ o. first_breach o (first_breach (uses_outcome file uses) product)) fine))
         (first_told end (uses_outcome file uses) product h))
 
@@ -56,9 +56,9 @@ module _ (file : File) (e : Equation) (uses : List Use) (small : length (table f
           ∷ nonzero_differences file (table file e uses) uses))))
 
       -- the product was refused
-      pub product_stops : (end : Overrun) → Tells end (product_outcome (first ∷ rest)) →
+      pub product_stops : (end : Overrun) → RefusesWith end (product_outcome (first ∷ rest)) →
           StopsPreparing file e uses (stop_of_polynomial end)
-      product_stops end h = stops end (subst (Tells end) prepared_is h)
+      product_stops end h = stops end (subst (RefusesWith end) prepared_is h)
 
       -- all was made
       pub prepared_fine : product_outcome (first ∷ rest) ≡ Outcome.Fine → PreparesTo file e uses Outcome.Fine

@@ -12,13 +12,13 @@ use Rattle.alg_mono.specs.declared.ends.Overrun.{Overrun}
 use Rattle.alg_mono.specs.declared.ends.Overrun.TheVariants.{Range, Degree, NoMemory}
 use Rattle.alg_mono.specs.Outcomes.{Outcome, first_breach, power_outcome}
 use Rattle.alg_mono.specs.Polynomials.{PolyOver, poly_neg}
-use Rattle.alg_mono.specs.Refusals.{Tells}
+use Rattle.alg_mono.specs.Refusals.{RefusesWith}
 use Rattle.alg_mono.specs.NumberedPolynomials.{atom_of, term_of, power_of}
 use Rattle.alg_meaning.specs.PolynomialOf.{poly_of}
 use Rattle.alg_meaning.specs.TermOutcome.{term_outcome}
 use Rattle.alg_meaning.proofs.Built.{binary_outcome, term_outcome_leaf}
 use Rattle.alg_reify.specs.Numbered.{number_of}
-use Rattle.alg_reify.specs.Making.{Makes, IsOver}
+use Rattle.alg_reify.specs.Making.{Makes, IsOverTable}
 use Rattle.alg_reify.proofs.Likes.{own_like, power_like}
 use Rattle.alg_reify.proofs.Made.{made, operation, like_made, made_binary, made-Var, made-Int, made-Neg, made-Pow, made-Hom}
 use Rattle.alg_reify.proofs.Parts.{HasPart, HasParts, over_part, over_left, over_right, part, parts}
@@ -26,39 +26,39 @@ use Rattle.alg_reify.proofs.Parts.{HasPart, HasParts, over_part, over_left, over
 -- what a call says one by one
 pub joined : {Q : Type 0} (map : Q → PolyOver ℕ) (r : Result Q Overrun) (p x : PolyOver ℕ) (o u : Outcome) →
     IfOk r (λ q. map q ≡ p) → IfOk r (λ q. o ≡ Outcome.Fine) →
-    IfErr r (λ e. Tells e o) → p ≡ x → o ≡ u → Makes map x u r
+    IfErr r (λ e. RefusesWith e o) → p ≡ x → o ≡ u → Makes map x u r
 joined map (Ok q) p x o u is fine refused same other = (is ∙ same, sym other ∙ fine)
-joined map (Err e) p x o u is fine refused same other = subst (Tells e) other refused
+joined map (Err e) p x o u is fine refused same other = subst (RefusesWith e) other refused
 
 -- a rule that is broken first is the one that is told
-pub first_told : (e : Overrun) (o later : Outcome) → Tells e o → Tells e (first_breach o later)
+pub first_told : (e : Overrun) (o later : Outcome) → RefusesWith e o → RefusesWith e (first_breach o later)
 first_told Range o later h = ap (λ x. first_breach x later) h
 first_told Degree o later h = ap (λ x. first_breach x later) h
 first_told NoMemory o later h = tt
 
 -- an error that was handed on tells what it told
 handed_on : {Q : Type 0} (map : Q → PolyOver ℕ) (r : Result Q Overrun) (p : PolyOver ℕ) (o : Outcome) (e : Overrun) →
-    IsErrAnd r (λ d. d ≡ e) → Tells e o → Makes map p o r
+    IsErrAnd r (λ d. d ≡ e) → RefusesWith e o → Makes map p o r
 handed_on map (Ok q) p o e came h = absurd came
-handed_on map (Err d) p o e came h = let P : Overrun → Type 0 = λ x. Tells x o in subst P (sym came) h
+handed_on map (Err d) p o e came h = let P : Overrun → Type 0 = λ x. RefusesWith x o in subst P (sym came) h
 
 -- the part failed
 pub part_failed : {Q : Type 0} (map : Q → PolyOver ℕ)
     (r : Result Q Overrun) (p : PolyOver ℕ) (t part : Term) (path inner : List ℕ) (own : Outcome)
     (e : Overrun) →
-    HasPart t part path inner own → IsErrAnd r (λ d. d ≡ e) → Tells e (term_outcome part) →
+    HasPart t part path inner own → IsErrAnd r (λ d. d ≡ e) → RefusesWith e (term_outcome part) →
     Makes map p (term_outcome t) r
 part_failed map r p t part path inner own e h came told =
     handed_on map r p (term_outcome t) e came
-    (subst (Tells e) (sym h.outcome) (first_told e (term_outcome part) own told))
+    (subst (RefusesWith e) (sym h.outcome) (first_told e (term_outcome part) own told))
 
 -- the left part failed
 pub left_failed : {Q : Type 0} (map : Q → PolyOver ℕ) (r : Result Q Overrun) (p : PolyOver ℕ) (e : Overrun)
     {t a b : Term} {own : Outcome} → HasParts t a b own →
-    IsErrAnd r (λ d. d ≡ e) → Tells e (term_outcome a) → Makes map p (term_outcome t) r
+    IsErrAnd r (λ d. d ≡ e) → RefusesWith e (term_outcome a) → Makes map p (term_outcome t) r
 left_failed map r p e {t = t} {a = a} {b = b} {own = own} h came told =
     handed_on map r p (term_outcome t) e came
-    (subst (Tells e) (sym h.outcome) (first_told e (term_outcome a) (first_breach (term_outcome b) own) told))
+    (subst (RefusesWith e) (sym h.outcome) (first_told e (term_outcome a) (first_breach (term_outcome b) own) told))
 
 -- after the left part the outcome is that of the right part and the node
 after_left : (t a b : Term) (own : Outcome) → HasParts t a b own → term_outcome a ≡ Outcome.Fine →
@@ -69,10 +69,10 @@ after_left t a b own h fine =
 -- the right part failed
 pub right_failed : {Q : Type 0} (map : Q → PolyOver ℕ) (r : Result Q Overrun) (p : PolyOver ℕ) (e : Overrun)
     {t a b : Term} {own : Outcome} → HasParts t a b own →
-    IsErrAnd r (λ d. d ≡ e) → term_outcome a ≡ Outcome.Fine → Tells e (term_outcome b) → Makes map p (term_outcome t) r
+    IsErrAnd r (λ d. d ≡ e) → term_outcome a ≡ Outcome.Fine → RefusesWith e (term_outcome b) → Makes map p (term_outcome t) r
 right_failed map r p e {t = t} {a = a} {b = b} {own = own} h came fine told =
     handed_on map r p (term_outcome t) e came
-    (subst (Tells e) (after_left t a b own h fine) (first_told e (term_outcome b) own told))
+    (subst (RefusesWith e) (after_left t a b own h fine) (first_told e (term_outcome b) own told))
 
 -- after both parts, the outcome is the node's own
 after_both : (t a b : Term) (own : Outcome) → HasParts t a b own → term_outcome a ≡ Outcome.Fine →
@@ -95,7 +95,7 @@ same_path : (atoms : List Atom) (after path : List ℕ) (b : Term) (q : PolyOver
 same_path atoms after path b q e h = let P : List ℕ → Type 0 = λ x. IsMade atoms x b q in subst P e h
 
 module _ (o : Binary) (atoms : List Atom) {path after : List ℕ} {t x y a b : Term} {p q : PolyOver ℕ}
-    (over : IsOver atoms path t) (e : t ≡ binary o x y) (left : a ≡ x) (right : b ≡ y) (back : after ≡ path)
+    (over : IsOverTable atoms path t) (e : t ≡ binary o x y) (left : a ≡ x) (right : b ≡ y) (back : after ≡ path)
     (made_left : IsMade atoms path a p)
     (made_right : IsMade atoms after b q) where
   -- the right part at the path of the whole
@@ -120,17 +120,17 @@ module _ (o : Binary) (atoms : List Atom) {path after : List ℕ} {t x y a b : T
   -- the polynomial was made, or what broke a rule is told
   pub binary_made : {Q : Type 0} (map : Q → PolyOver ℕ) (r : Result Q Overrun) →
       IfOk r (λ s. map s ≡ operation o p q) → IfOk r (λ s. binary_outcome o p q ≡ Outcome.Fine) →
-      IfErr r (λ e. Tells e (binary_outcome o p q)) → Makes map (made atoms path t) (term_outcome t) r
+      IfErr r (λ e. RefusesWith e (binary_outcome o p q)) → Makes map (made atoms path t) (term_outcome t) r
   binary_made map r is fine refused =
       joined map r (operation o p q) (made atoms path t) (binary_outcome o p q)
       (term_outcome t) is fine refused both own
 
 module _ (atoms : List Atom) (path : List ℕ) (t x inner : Term) (p : PolyOver ℕ) (is : inner ≡ x) where
   -- the power
-  pub power_made : {Q : Type 0} (map : Q → PolyOver ℕ) (n : ℕ) (r : Result Q Overrun) → IsOver atoms path t →
+  pub power_made : {Q : Type 0} (map : Q → PolyOver ℕ) (n : ℕ) (r : Result Q Overrun) → IsOverTable atoms path t →
       IsMade atoms path inner p → t ≡ Pow x n →
       IfOk r (λ s. map s ≡ power_of p n) → IfOk r (λ s. power_outcome p n ≡ Outcome.Fine) →
-      IfErr r (λ e. Tells e (power_outcome p n)) → Makes map (made atoms path t) (term_outcome t) r
+      IfErr r (λ e. RefusesWith e (power_outcome p n)) → Makes map (made atoms path t) (term_outcome t) r
   power_made map n r over h e made_is fine refused =
       let own = power_outcome (poly_of inner) n in
       let has = part (Unary.Power n) path e is in

@@ -10,7 +10,7 @@ use Rattle.alg_terms.specs.GoalRules.{IsHyp}
 use Rattle.alg_mono.specs.declared.ends.Overrun.{Overrun}
 use Rattle.alg_mono.specs.NumberedPolynomials.{Polynomial}
 use Rattle.alg_mono.specs.Outcomes.{Outcome, first_breach}
-use Rattle.alg_mono.specs.Refusals.{Tells}
+use Rattle.alg_mono.specs.Refusals.{RefusesWith}
 use Rattle.alg_mono.proofs.MergeTurns.{drop_at}
 use Rattle.alg_reify.specs.Preparing.{difference_outcome, equation_differences, is_equation, is_nonzero, nonzero_differences, used_difference, used_equation, uses_outcome}
 use Rattle.alg_reify.specs.Table.{equation_leaves, use_leaves}
@@ -91,10 +91,10 @@ module _ (file : File) (atoms : List Atom) (uses : List Use) (i : ℕ) (x d : Us
   outcome_turn all fine is =
       sym (ap (λ o. first_breach o (uses_outcome file rest)) fine) ∙ sym outcome_from ∙ is
 
-  pub outcome_told : (all : Outcome) (end : Overrun) → Tells end (difference_outcome x.path (used_equation file x)) →
-      uses_outcome file (drop i uses) ≡ all → Tells end all
+  pub outcome_told : (all : Outcome) (end : Overrun) → RefusesWith end (difference_outcome x.path (used_equation file x)) →
+      uses_outcome file (drop i uses) ≡ all → RefusesWith end all
   outcome_told all end told is =
-      subst (Tells end) (sym outcome_from ∙ is)
+      subst (RefusesWith end) (sym outcome_from ∙ is)
       (first_told end (difference_outcome x.path (used_equation file x)) (uses_outcome file rest) told)
 
 -- what is kept of the uses is no longer

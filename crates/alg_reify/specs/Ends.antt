@@ -8,18 +8,18 @@ use Rattle.alg_meaning.specs.FractionsOver.{FractionOver}
 use Rattle.alg_reify.specs.declared.ends.FractionEnd.{FractionEnd}
 
 -- the refusal names the rule that is broken; want of memory tells nothing
-abbrev pub TellsRule : Overrun → FractionOutcome → Type 0
-TellsRule Overrun.Range outcome = outcome ≡ FractionOutcome.Range
-TellsRule Overrun.Degree outcome = outcome ≡ FractionOutcome.Degree
-TellsRule Overrun.NoMemory outcome = Unit {0}
+abbrev pub RefusesFractionWith : Overrun → FractionOutcome → Type 0
+RefusesFractionWith Overrun.Range outcome = outcome ≡ FractionOutcome.Range
+RefusesFractionWith Overrun.Degree outcome = outcome ≡ FractionOutcome.Degree
+RefusesFractionWith Overrun.NoMemory outcome = Unit {0}
 
 -- or the denominator that is zero
-abbrev pub TellsEnd : FractionEnd → FractionOutcome → Type 0
-TellsEnd (FractionEnd.Refused end) outcome = TellsRule end outcome
-TellsEnd (FractionEnd.ZeroDenominator t) outcome = outcome ≡ FractionOutcome.ZeroDenominator t
+abbrev pub EndsFractionWith : FractionEnd → FractionOutcome → Type 0
+EndsFractionWith (FractionEnd.Refused end) outcome = RefusesFractionWith end outcome
+EndsFractionWith (FractionEnd.ZeroDenominator t) outcome = outcome ≡ FractionOutcome.ZeroDenominator t
 
 -- this fraction is made where the outcome is fine, and else the end is told
 abbrev pub GivesFraction : {F : Type 0} → (F → FractionOver ℕ) → FractionOver ℕ → FractionOutcome →
     Result F FractionEnd → Type 0
 GivesFraction fraction x outcome (Ok f) = (fraction f ≡ x) × (outcome ≡ FractionOutcome.Fine)
-GivesFraction fraction x outcome (Err e) = TellsEnd e outcome
+GivesFraction fraction x outcome (Err e) = EndsFractionWith e outcome

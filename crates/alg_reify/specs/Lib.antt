@@ -18,4 +18,4 @@ pub mod FieldLaws
 pub mod Stops
 pub mod Laws
 pub mod RightLaws
-pub mod Tried
+pub mod TestTerms

@@ -10,7 +10,7 @@ use Rattle.alg_meaning.specs.Conditions.{conditions_of}
 use Rattle.alg_meaning.specs.FractionOutcome.{FractionOutcome, first_not_fine, frac_outcome}
 use Rattle.alg_meaning.specs.FractionsOver.{FractionOver}
 use Rattle.alg_reify.specs.declared.ends.FractionEnd.{FractionEnd}
-use Rattle.alg_reify.specs.Ends.{TellsEnd}
+use Rattle.alg_reify.specs.Ends.{EndsFractionWith}
 use Rattle.alg_reify.specs.FieldVerdict.{left_numerator, right_numerator, sides_outcome}
 use Rattle.alg_reify.specs.FractionsUnder.{made_fraction}
 use Rattle.alg_reify.specs.Numbered.{numbered}
@@ -31,7 +31,7 @@ module _ {F : Type 0} (fraction : F → FractionOver ℕ) (file : File) (e : Equ
   -- they were made, or the end is told
   abbrev pub MakesBoth : Result (F × F) FractionEnd → Type 0
   MakesBoth (Ok p) = AreBoth p.0 p.1
-  MakesBoth (Err end) = TellsEnd end (both_outcome e)
+  MakesBoth (Err end) = EndsFractionWith end (both_outcome e)
 
 -- these are the numerators of both sides over their common factors, by the numbers of the equation's atoms, and all are
 -- the goal's conditions

@@ -16,7 +16,7 @@ use Rattle.alg_meaning.specs.FractionsOver.{FractionOver, is_unit, frac_sum, fra
 use Rattle.alg_reify.specs.FractionsUnder.{made_fraction, IsHeld}
 use Rattle.alg_reify.specs.Added.{drops, add_condition, add_conditions}
 use Rattle.alg_reify.specs.declared.ends.FractionEnd.{FractionEnd}
-use Rattle.alg_reify.specs.Ends.{TellsEnd, GivesFraction}
+use Rattle.alg_reify.specs.Ends.{EndsFractionWith, GivesFraction}
 
 -- a term with literals of the format, whose atoms under the path are all in the table
 pub record IsFractionOver (atoms : List Atom) (path : List ℕ) (t : Term) : Type 0 where
@@ -85,4 +85,4 @@ abbrev pub MakesFraction : {F : Type 0} → (F → FractionOver ℕ) → Bool �
     List Term → Term → Result F FractionEnd → Type 0
 MakesFraction fraction char0 atoms path after seen all t (Ok f) =
     IsMade fraction char0 atoms path after seen all t f
-MakesFraction fraction char0 atoms path after seen all t (Err e) = TellsEnd e (frac_outcome t)
+MakesFraction fraction char0 atoms path after seen all t (Err e) = EndsFractionWith e (frac_outcome t)

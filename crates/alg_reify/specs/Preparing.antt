@@ -15,7 +15,7 @@ use Rattle.alg_meaning.specs.PolynomialOf.{poly_of_under}
 use Rattle.alg_meaning.specs.TermOutcome.{term_outcome}
 use Rattle.alg_reify.specs.declared.stop.Stop.{Stop}
 use Rattle.alg_reify.specs.Numbered.{numbered}
-use Rattle.alg_reify.specs.Stops.{ComesTo, Stops}
+use Rattle.alg_reify.specs.Stops.{ComesTo, StopsWith}
 use Rattle.alg_reify.specs.Table.{table}
 
 -- the method is nsatz
@@ -95,4 +95,4 @@ module _ (file : File) where
 
     -- there are too many atoms, or the first polynomial that breaks a rule breaks this one; want of memory says nothing
     abbrev pub StopsPreparing : Stop → Type 0
-    StopsPreparing stop = Stops (table file e uses) prepared_outcome stop
+    StopsPreparing stop = StopsWith (table file e uses) prepared_outcome stop

@@ -23,8 +23,8 @@ abbrev pub ComesTo : List Atom → Outcome → Outcome → Type 0
 ComesTo atoms outcome comes = (length atoms ≤ MAX_ATOMS) × (outcome ≡ comes)
 
 -- the table has too many atoms, or making polynomials over them breaks this rule; want of memory says nothing
-abbrev pub Stops : List Atom → Outcome → Stop → Type 0
-Stops atoms outcome Stop.Atoms = MAX_ATOMS < length atoms
-Stops atoms outcome Stop.Range = ComesTo atoms outcome Outcome.Range
-Stops atoms outcome Stop.Degree = ComesTo atoms outcome Outcome.Degree
-Stops atoms outcome Stop.NoMemory = Unit {0}
+abbrev pub StopsWith : List Atom → Outcome → Stop → Type 0
+StopsWith atoms outcome Stop.Atoms = MAX_ATOMS < length atoms
+StopsWith atoms outcome Stop.Range = ComesTo atoms outcome Outcome.Range
+StopsWith atoms outcome Stop.Degree = ComesTo atoms outcome Outcome.Degree
+StopsWith atoms outcome Stop.NoMemory = Unit {0}

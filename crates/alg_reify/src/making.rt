@@ -3,13 +3,13 @@
 ghost use Rattle.std.specs.Prelude.{◌≡◌, IfOk, IfErr, OnOk, All, Contains};
 ghost use Rattle.alg_terms.specs.TermRules.{IsTerm, HasNoQuotient};
 ghost use Rattle.alg_mono.specs.Outcomes.{Outcome};
-ghost use Rattle.alg_mono.specs.Refusals.{Tells};
+ghost use Rattle.alg_mono.specs.Refusals.{RefusesWith};
 ghost use Rattle.alg_mono.specs.NumberedPolynomials.{atom_of};
 ghost use Rattle.alg_meaning.specs.PolynomialOf.{poly_of_under};
 ghost use Rattle.alg_meaning.specs.TermOutcome.{term_outcome};
 ghost use Rattle.alg_reify.specs.Table.{leaves};
 ghost use Rattle.alg_reify.specs.Numbered.{number_of, numbered};
-ghost use Rattle.alg_reify.specs.Making.{Makes, IsOver};
+ghost use Rattle.alg_reify.specs.Making.{Makes, IsOverTable};
 
 use crate::{Atoms, NoMemory};
 use alg_mono::{Overrun, PolynomialForm};
@@ -34,7 +34,7 @@ pub fn reify<P: PolynomialForm>(
     requires held { All (Contains table.now) (leaves path.now term.now) }
     ensures ok { IfOk result (λ p. P.map p ≡ numbered table.now (poly_of_under path.now term.now)) }
     ensures fine { OnOk result (term_outcome term.now ≡ Outcome.Fine) }
-    ensures refused { IfErr result (λ e. Tells e (term_outcome term.now)) }
+    ensures refused { IfErr result (λ e. RefusesWith e (term_outcome term.now)) }
 {
     let mut path = Vec::from_slice(alloc, path)?;
     make(alloc, table, &mut path, term)
@@ -47,7 +47,7 @@ fn make<P: PolynomialForm>(
     path: &mut Vec<u32>,
     term: &Term,
 ) -> Result<P, Overrun>
-    requires { IsOver table.now path.old.items term.now }
+    requires { IsOverTable table.now path.old.items term.now }
     ensures path { OnOk result (path.new.items ≡ path.old.items) }
     ensures makes { Makes P.map (numbered table.now (poly_of_under path.old.items term.now))
         (term_outcome term.now) result }

@@ -3,7 +3,7 @@
 
 ghost use Rattle.std.specs.Prelude.{◌≡◌, ◌<◌, IfOk, length, pos};
 ghost use Rattle.alg_terms.specs.GoalRules.{IsEquation, DividesNowhere};
-ghost use Rattle.alg_reify.specs.Tried.{tried};
+ghost use Rattle.alg_reify.specs.TestTerms.{test_side};
 
 use alg_reify::laws::{
     field_no_differs, field_no_is_a_monomial, field_no_is_over_the_table, field_no_is_within_range,
@@ -165,7 +165,7 @@ fn one_variable(alloc: Global) -> Result<File, NoMemory>
 
 // (k*x)^n*x + c
 fn side(alloc: Global, k: u64, n: u32, c: u64) -> Result<Term, NoMemory>
-    ensures { IfOk result (λ term. term ≡ tried (pos k) n (pos c)) }
+    ensures { IfOk result (λ term. term ≡ test_side (pos k) n (pos c)) }
 {
     let base = Term::Mul(
         Boxed::new(alloc, Term::Int(i128::from(k)))?,
@@ -177,7 +177,7 @@ fn side(alloc: Global, k: u64, n: u32, c: u64) -> Result<Term, NoMemory>
 }
 
 // (k*x)^n*x + c = (k*x)^n*x + c
-fn tried_equation(alloc: Global, file: &File, k: u64, n: u32, c: u64) -> Result<Equation, NoMemory>
+fn test_equation(alloc: Global, file: &File, k: u64, n: u32, c: u64) -> Result<Equation, NoMemory>
     requires { 0 < length file.now.vars }
     ensures { IfOk result (λ e. IsEquation file.now e × DividesNowhere e) }
 {
@@ -228,7 +228,7 @@ fn a_polynomial_is_made_within_the_limits(rt: HostRuntime) -> Result<(), Fail> {
     let alloc = rt.alloc();
     let file = one_variable(alloc)?;
     for (k, n, c, want) in SIDES {
-        let equation = tried_equation(alloc, &file, *k, *n, *c)?;
+        let equation = test_equation(alloc, &file, *k, *n, *c)?;
         let made = left_side(alloc, &file, &equation)?;
         match (made, want) {
             (Ok(poly), Ok(want)) => {

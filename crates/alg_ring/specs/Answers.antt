@@ -13,11 +13,11 @@ verdict_of RingAnswer.Proved = RingVerdict.Proved
 verdict_of (RingAnswer.No at left right) = RingVerdict.No at left right
 
 -- a stop is the verdict of its name; want of memory says nothing
-abbrev pub Stops : File → Equation → Stop → Type 0
-Stops file e Stop.Atoms = IsRingVerdict file e RingVerdict.Atoms
-Stops file e Stop.Range = IsRingVerdict file e RingVerdict.Range
-Stops file e Stop.Degree = IsRingVerdict file e RingVerdict.Degree
-Stops file e Stop.NoMemory = Unit {0}
+abbrev pub StopsWith : File → Equation → Stop → Type 0
+StopsWith file e Stop.Atoms = IsRingVerdict file e RingVerdict.Atoms
+StopsWith file e Stop.Range = IsRingVerdict file e RingVerdict.Range
+StopsWith file e Stop.Degree = IsRingVerdict file e RingVerdict.Degree
+StopsWith file e Stop.NoMemory = Unit {0}
 
 -- two polynomials are equal, or they first differ so
 abbrev pub IsComparison : Polynomial → Polynomial → RingAnswer → Type 0

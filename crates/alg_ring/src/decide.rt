@@ -3,7 +3,7 @@ ghost use Rattle.alg_terms.specs.GoalRules.{IsEquation, DividesNowhere};
 ghost use Rattle.alg_meaning.specs.PolynomialOf.{poly_of};
 ghost use Rattle.alg_reify.specs.Numbered.{numbered};
 ghost use Rattle.alg_reify.specs.RingVerdict.{IsRingVerdict, own_table};
-ghost use Rattle.alg_ring.specs.Answers.{verdict_of, Stops, IsComparison};
+ghost use Rattle.alg_ring.specs.Answers.{verdict_of, StopsWith, IsComparison};
 
 use alg_horner::HornerPoly;
 use alg_poly::Poly;
@@ -44,7 +44,7 @@ pub fn decide_ring(alloc: Global, file: &File, equation: &Equation) -> Result<Ri
         d.left ≡ numbered (own_table file.now equation.now) (poly_of equation.now.left)) }
     ensures right { IfOk result (λ d.
         d.right ≡ numbered (own_table file.now equation.now) (poly_of equation.now.right)) }
-    ensures stop { IfErr result (Stops file.now equation.now) }
+    ensures stop { IfErr result (StopsWith file.now equation.now) }
 {
     let table = atoms_of(alloc, file, equation, &[])?;
     let left: HornerPoly = reify(alloc, file, &[], &equation.left, &table)?;

@@ -3,7 +3,7 @@
 ghost use Rattle.std.specs.Prelude.{◌≡◌, ◌≤◌, ◌<◌, IfOk, length, pos, ◌≤ℤ◌};
 ghost use Rattle.alg_terms.specs.GoalRules.{IsEquation, DividesNowhere};
 ghost use Rattle.alg_terms.specs.Limits.{MAX_EXPONENT};
-ghost use Rattle.alg_reify.specs.Tried.{tried};
+ghost use Rattle.alg_reify.specs.TestTerms.{test_side};
 
 use crate::laws::proved_is_right;
 use crate::{HornerPoly, NoMemory, Poly, RingAnswer, RingDecision, Stop, decide_ring, to_poly};
@@ -40,7 +40,7 @@ fn one_variable(alloc: Global) -> Result<File, NoMemory>
 
 // (k*x)^n*x + c
 fn side(alloc: Global, k: u64, n: u32, c: i128) -> Result<Term, NoMemory>
-    ensures { IfOk result (λ term. term ≡ tried (pos k) n c) }
+    ensures { IfOk result (λ term. term ≡ test_side (pos k) n c) }
 {
     let base = Term::Mul(
         Boxed::new(alloc, Term::Int(i128::from(k)))?,

@@ -1,6 +1,6 @@
 use Rattle.std.proofs.Common.{arith, ◌≡◌, ◌+◌, subst}
-use Rattle.alg_field.specs.Tried.{IsSide}
-use Rattle.alg_field.proofs.Tried.{deeper}
+use Rattle.alg_field.specs.TestTerms.{IsSide}
+use Rattle.alg_field.proofs.TestTerms.{deeper}
 use Rattle.alg_field_tests.proofs.equations.chain.Goals as goal
 
 pub loop-k-preserved : goal.loop-k-preserved

@@ -1,6 +1,6 @@
 use Rattle.std.proofs.Common.{◌<◌, ◌+◌, length}
 use Rattle.alg_terms.specs.declared.file.File.{File}
-use Rattle.alg_field.specs.Tried.{IsSide}
+use Rattle.alg_field.specs.TestTerms.{IsSide}
 use Rattle.alg_field_tests.proofs.equations.chain.Given as goal
 
 -- each quotient is one deeper

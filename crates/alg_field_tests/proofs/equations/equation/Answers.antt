@@ -1,5 +1,5 @@
 use Rattle.std.proofs.Common.{◌∙◌, ap, slice_index_or}
-use Rattle.alg_field.proofs.Tried.{sides_are_equation, first_of}
+use Rattle.alg_field.proofs.TestTerms.{sides_are_equation, first_of}
 use Rattle.alg_field_tests.proofs.equations.equation.Goals as goal
 
 pub returns : goal.returns

@@ -1,5 +1,5 @@
 use Rattle.std.proofs.Common.{arith}
-use Rattle.alg_field.proofs.Tried.{deeper}
+use Rattle.alg_field.proofs.TestTerms.{deeper}
 use Rattle.alg_field_tests.proofs.equations.long.Goals as goal
 
 pub returns : goal.returns

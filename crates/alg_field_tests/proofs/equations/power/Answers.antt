@@ -2,8 +2,8 @@ use Rattle.std.proofs.Common.{rules, ◌≡◌, ◌≤◌}
 use Rattle.std.specs.Prelude.{pos}
 use Rattle.alg_terms.specs.Limits.{MAX_EXPONENT}
 use Rattle.alg_terms.specs.declared.term.Term.TheVariants.{Pow}
-use Rattle.alg_field.specs.Tried.{linear_power}
-use Rattle.alg_field.proofs.Tried.{power_is_side}
+use Rattle.alg_field.specs.TestTerms.{linear_power}
+use Rattle.alg_field.proofs.TestTerms.{power_is_side}
 use Rattle.alg_field_tests.proofs.equations.power.Goals as goal
 
 pub returns : goal.returns

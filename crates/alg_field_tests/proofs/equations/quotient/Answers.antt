@@ -1,7 +1,7 @@
 use Rattle.std.proofs.Common.{◌+◌, sym, subst}
 use Rattle.alg_terms.specs.declared.term.Term.TheVariants.{Div}
-use Rattle.alg_field.specs.Tried.{IsSide}
-use Rattle.alg_field.proofs.Tried.{quotient_is_side}
+use Rattle.alg_field.specs.TestTerms.{IsSide}
+use Rattle.alg_field.proofs.TestTerms.{quotient_is_side}
 use Rattle.alg_field_tests.proofs.equations.quotient.Goals as goal
 
 pub returns : goal.returns

@@ -2,7 +2,7 @@ use Rattle.std.proofs.Common.{rules, sym, subst, ◌∙◌}
 use mir.Syntax.{w128}
 use mir.Val.{SFits}
 use Rattle.std.proofs.lemmas.Int.{to_z-of_z}
-use Rattle.alg_mono.specs.Refusals.{Tells}
+use Rattle.alg_mono.specs.Refusals.{RefusesWith}
 use Rattle.alg_groebner.specs.Cancelling.{cancel_outcome}
 use Rattle.alg_groebner.proofs.Cancelling.{outcome_is, cancelled_is}
 use Rattle.alg_groebner.proofs.cancel.cancel.Goals as goal
@@ -19,8 +19,8 @@ returns-in_err-sum-clause-refused c =
     outcome_is c.args.m.now c.args.p.now c.args.n.now c.args.q.now c.leading_of-u.result c.leading_of-v.result
     c.left-a.result c.right-b.result c.leading_of-u.ensures.value c.leading_of-v.ensures.value a b in
     let tells = simp to_z-of_z at c.in_err-sum.ensures.refused in
-    let told : Tells c.in_err-sum.field-0.0 (cancel_outcome c.args.m.now c.args.p.now c.args.n.now c.args.q.now) =
-    subst (Tells c.in_err-sum.field-0.0) is tells in
+    let told : RefusesWith c.in_err-sum.field-0.0 (cancel_outcome c.args.m.now c.args.p.now c.args.n.now c.args.q.now) =
+    subst (RefusesWith c.in_err-sum.field-0.0) is tells in
     search (rules, told)
 
 pub over_int-requires : goal.over_int-requires

@@ -1,7 +1,7 @@
 use Rattle.std.specs.Prelude.{◌≡◌, ◌++◌, ◌∷◌, [], List}
 use Rattle.std.proofs.Common.{rules, ap, ◌∙◌}
 use Rattle.alg_mono.specs.Outcomes.{Outcome}
-use Rattle.alg_mono.specs.Refusals.{Tells}
+use Rattle.alg_mono.specs.Refusals.{RefusesWith}
 use Rattle.alg_lines.specs.declared.cert.GoalStep.{GoalStep}
 use Rattle.alg_groebner.specs.Runs.{powers, powers_outcome}
 use Rattle.alg_groebner.proofs.Pruned.{powers_turn, outcome_turn, told_first}
@@ -11,7 +11,7 @@ pub returns-in_err-rest-clause-refused : goal.returns-in_err-rest-clause-refused
 returns-in_err-rest-clause-refused c =
     let g = c.args.goal.now in
     let r = c.loop-r.r in
-    let told : Tells c.in_err-rest.field-0.0 (powers_outcome g 1 c.args.power) =
+    let told : RefusesWith c.in_err-rest.field-0.0 (powers_outcome g 1 c.args.power) =
     told_first g r c.args.power (powers_outcome g 1 c.args.power) c.in_err-rest.field-0.0 c.loop-r-test.true
     c.in_err-rest.ensures.refused
     c.loop-r.invariant.1 in

@@ -8,7 +8,7 @@ use Rattle.std.specs.Int.RustNames.{unsigned_abs}
 use Rattle.alg_mono.specs.NumberedPolynomials.{sum_of, difference_of, multiple_of}
 use Rattle.alg_mono.specs.Outcomes.{Outcome, sum_outcome, scale_outcome}
 use Rattle.alg_mono.specs.Polynomials.{MAX, norm}
-use Rattle.alg_mono.specs.Refusals.{Tells}
+use Rattle.alg_mono.specs.Refusals.{RefusesWith}
 use Rattle.alg_lines.proofs.Parts.{parts_add, refused, made, opposite_multiple, opposite_outcome, opposite_magnitude, always_fine}
 use Rattle.alg_lines.proofs.combination.subtract_multiple.Goals as goal
 
@@ -64,6 +64,6 @@ returns-in_err-right-clause-refused c =
     let fits : SFits w128 c.opposite.result = search rules in
     let is : c.opposite.result ≡ neg_ℤ b = simp to_z-of_z at c.opposite.ensures.value in
     let tells = simp to_z-of_z at c.in_err-right.ensures.refused in
-    let told : Tells c.in_err-right.field-0.0 (scale_outcome b n q) =
-    subst (Tells c.in_err-right.field-0.0) (ap (λ k. scale_outcome k n q) is ∙ opposite_outcome b n q) tells in
+    let told : RefusesWith c.in_err-right.field-0.0 (scale_outcome b n q) =
+    subst (RefusesWith c.in_err-right.field-0.0) (ap (λ k. scale_outcome k n q) is ∙ opposite_outcome b n q) tells in
     search (rules, told)

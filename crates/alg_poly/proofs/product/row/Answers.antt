@@ -6,7 +6,7 @@ use Rattle.std.proofs.lemmas.Int.{to_z-of_z}
 use Rattle.std.proofs.lemmas.List.{take_all}
 use Rattle.std.specs.Ordering.{nat_cmp}
 use Rattle.alg_mono.specs.Monomials.{degree, mono_times, MAX_DEGREE}
-use Rattle.alg_mono.specs.Refusals.{IsOver}
+use Rattle.alg_mono.specs.Refusals.{IsOverDegreeLimit}
 use Rattle.alg_mono.specs.Mono.{Monomial}
 use Rattle.alg_mono.specs.NumberedPolynomials.{row_of}
 use Rattle.alg_mono.proofs.Rows.{row_more, degree_small}
@@ -47,7 +47,7 @@ pub unreachable-requires : goal.unreachable-requires
 unreachable-requires c =
     let x = c.term-item.result in
     let over : MAX_DEGREE < degree c.args.m.now + degree x.0 =
-    subst (λ e. IsOver (degree c.args.m.now + degree x.0) e) c.in-Err-Degree.field-0-is
+    subst (λ e. IsOverDegreeLimit (degree c.args.m.now + degree x.0) e) c.in-Err-Degree.field-0-is
     c.in-Err-Degree.ensures.refused in
     let under = degree_small c.args.terms.now c.loop-term.term-index x (omega arith) c.term-item.is in
     omega arith

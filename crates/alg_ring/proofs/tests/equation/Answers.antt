@@ -1,6 +1,6 @@
 use Rattle.std.proofs.Common.{rules, arith, ◌≡◌, ◌<◌, ◌∙◌, ap, List, [], ◌∷◌, length, slice_index_or, refl}
 use Rattle.alg_terms.specs.declared.declarations.VarDecl.{VarDecl}
-use Rattle.alg_reify.proofs.Tried.{tried_is_equation}
+use Rattle.alg_reify.proofs.TestTerms.{test_sides_are_equation}
 use Rattle.alg_ring.proofs.tests.equation.Goals as goal
 
 first_of : (vars : List VarDecl) (x y : VarDecl) → 0 < length vars → slice_index_or vars 0 x ≡ slice_index_or vars 0 y
@@ -9,7 +9,7 @@ first_of (v ∷ vars) x y there = refl
 
 pub returns : goal.returns
 returns c =
-    tried_is_equation c.args.file.now _ _ _ _ c.requires (search rules) (search rules) (search rules) (search rules)
+    test_sides_are_equation c.args.file.now _ _ _ _ c.requires (search rules) (search rules) (search rules) (search rules)
     _ _ _
     (ap (λ vars. (slice_index_or vars 0 c.index-items-0.result).sort) c.items.ensures
     ∙ ap (λ v. v.sort) (first_of c.args.file.now.vars c.index-items-0.result _ c.requires))

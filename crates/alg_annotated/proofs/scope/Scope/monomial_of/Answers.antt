@@ -4,7 +4,7 @@ use Rattle.std.specs.Prelude.{All, sum_by, unwrap_or}
 use Rattle.alg_mono.specs.FiniteMaps.{collect}
 use Rattle.alg_mono.specs.Monomials.{MAX_DEGREE, degree}
 use Rattle.alg_mono.specs.Numbers.{exponents}
-use Rattle.alg_mono.specs.Refusals.{IsOver}
+use Rattle.alg_mono.specs.Refusals.{IsOverDegreeLimit}
 use Rattle.alg_annotated.specs.Monomials.{HasNames, exponent_of, factor_fault, factor_pair, factors_of}
 use Rattle.alg_annotated.proofs.ClearMonomials.{exponents_low, factors_clear, pairs_degree}
 use Rattle.alg_annotated.proofs.Factors.{factors_named}
@@ -39,7 +39,7 @@ unreachable-requires c =
     let atoms = unwrap_or c.args.atoms.now [] in
     let mono = c.args.mono.now in
     let over : MAX_DEGREE < degree c.deref.result.now =
-    subst (λ e. IsOver (degree c.deref.result.now) e) c.in-Err-Degree.field-0-is c.in-Err-Degree.ensures.refused in
+    subst (λ e. IsOverDegreeLimit (degree c.deref.result.now) e) c.in-Err-Degree.field-0-is c.in-Err-Degree.ensures.refused in
     let pairs = c.deref.ensures.value ∙ c.in_ok-pairs.ensures
     ∙ ap (map (factor_pair file text atoms)) c.as_slice.ensures in
     let same = ap (degree {K = ℕ}) pairs ∙ pairs_degree file text atoms (factors_of mono) in

@@ -3,7 +3,7 @@ use Rattle.std.specs.Ordering.{nat_cmp}
 use Rattle.std.specs.Cmp.{nat_cmp_total}
 use Rattle.std.specs.FinMap.{nat_cmp-IsAntisymmetric}
 use Rattle.alg_mono.specs.Monomials.{IsMono, degree, mono_over, lcm}
-use Rattle.alg_mono.specs.Refusals.{IsOver}
+use Rattle.alg_mono.specs.Refusals.{IsOverDegreeLimit}
 use Rattle.alg_mono.proofs.Monomials.{degree-mono_times}
 use Rattle.alg_mono.proofs.Lcm.{IsMono-mono_over}
 use Rattle.alg_mono.proofs.mono.Mono.lcm.Goals as goal
@@ -25,4 +25,4 @@ returns-clause-refused c =
     let degrees : degree a + degree c.in_ok-pairs.pairs.items ≡ degree (lcm nat_cmp a b) =
     ap (λ m. degree a + degree m) left
     ∙ sym (degree-mono_times nat_cmp_total nat_cmp-IsAntisymmetric a (mono_over nat_cmp b a)) in
-    subst (λ n. IfErr c.times.result (IsOver n)) degrees c.times.ensures.refused
+    subst (λ n. IfErr c.times.result (IsOverDegreeLimit n)) degrees c.times.ensures.refused

@@ -1,7 +1,7 @@
 use Rattle.std.specs.Prelude.{◌≡◌, IfOk, IfErr}
 use Rattle.std.proofs.Common.{subst}
 use Rattle.alg_mono.specs.Outcomes.{Outcome}
-use Rattle.alg_mono.specs.Refusals.{Tells}
+use Rattle.alg_mono.specs.Refusals.{RefusesWith}
 use Rattle.alg_poly.proofs.Limits.{outcome_of_opposite}
 use Rattle.alg_poly.proofs.poly.Poly.sub.Goals as goal
 
@@ -14,6 +14,6 @@ returns-clause-fine c =
 
 pub returns-clause-refused : goal.returns-clause-refused
 returns-clause-refused c =
-    subst (λ (o : Outcome). IfErr c.add.result (λ e. Tells e o))
+    subst (λ (o : Outcome). IfErr c.add.result (λ e. RefusesWith e o))
     (outcome_of_opposite c.args.self.now c.args.other.now c.in_ok-opposite.opposite c.in_ok-opposite.ensures)
     c.add.ensures.refused

@@ -3,5 +3,5 @@ use Rattle.std.specs.Prelude.{ℕ, ℤ}
 use Rattle.alg_terms.specs.declared.term.Term.{Term}
 use Rattle.alg_terms.specs.declared.term.Term.TheVariants.{Var, Int, Add, Mul, Pow}
 
-abbrev pub tried : ℤ → ℕ → ℤ → Term
-tried k n c = Add (Mul (Pow (Mul (Int k) (Var 0)) n) (Var 0)) (Int c)
+abbrev pub test_side : ℤ → ℕ → ℤ → Term
+test_side k n c = Add (Mul (Pow (Mul (Int k) (Var 0)) n) (Var 0)) (Int c)

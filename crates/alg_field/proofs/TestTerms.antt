@@ -15,7 +15,7 @@ use Rattle.alg_terms.specs.Term.{node_depth, depth_of}
 use Rattle.alg_terms.specs.TermRules.{IsTerm, IsInRange, HasLiteral, HasExponent, HasAgreeingParts, HasFittingArgument}
 use Rattle.alg_terms.proofs.Built.{fold_term-Div}
 use Rattle.alg_terms.proofs.BuiltNodes.{EachNode-Div}
-use Rattle.alg_field.specs.Tried.{linear_power, IsSide}
+use Rattle.alg_field.specs.TestTerms.{linear_power, IsSide}
 
 -- a number that may be a literal
 abbrev IsLiteral : ℤ → Type 0
